@@ -1,15 +1,16 @@
 #!/bin/sh
-# run.sh [views|captures] [SECONDS [OBJECT]]: builds the fuzzer of the C API, of views, or of what nlshow reads, and runs it
-# for so long, or for ten minutes. It is not part of CI. It needs clang with libFuzzer (Debian's packages clang and
-# libclang-rt-14-dev) and python3. The library is built with counters by counted.sh, views/lib.rs and nlshow without proofs
-# by bench/unproved.py; or OBJECT is taken, which was built earlier. What it found is kept in out/corpus, of views in
-# views/out/corpus, of captures in captures/out/corpus, and an input that fails beside it as crash-*.
+# run.sh [requests|views|captures] [SECONDS [OBJECT]]: builds the fuzzer of the C API, of its requests, of views, or of what
+# nlshow reads, and runs it for so long, or for ten minutes. It is not part of CI. It needs clang with libFuzzer (Debian's
+# packages clang and libclang-rt-14-dev) and python3. The library is built with counters by counted.sh, views/lib.rs and
+# nlshow without proofs by bench/unproved.py; or OBJECT is taken, which was built earlier: also the library, by
+# `bench/unproved.py crates/nlroute_ffi OBJECT`. What it found is kept in out/corpus, of views in views/out/corpus and so
+# on, and an input that fails beside it as crash-*.
 cd "$(dirname "$0")" || exit 1
 kit=$(dirname "$(rt doc)")
 ffi=../../crates/nlroute_ffi
 part=.
 case $1 in
-views | captures) part=$1 && shift ;;
+requests | views | captures) part=$1 && shift ;;
 esac
 out=$part/out
 object=${2:-$out/counted.o}
@@ -18,7 +19,7 @@ mkdir -p "$out/corpus" "$out/seeds"
 case $part$2 in
 views) ../../bench/unproved.py views "$object" || exit 1 ;;
 captures) ../../bench/unproved.py ../../crates/nlshow "$object" || exit 1 ;;
-.) ./counted.sh "$ffi" "$object" || exit 1 ;;
+. | requests) ./counted.sh "$ffi" "$object" || exit 1 ;;
 esac
 if [ "$part" = captures ]; then
     objcopy --redefine-sym main=nlshow_main --redefine-sym rattle_arg=fuzz_arg \
