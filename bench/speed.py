@@ -1,6 +1,6 @@
 #!/usr/bin/env python3
 """speed.py LIB.a.. [LIST..]: instructions and allocations a list, of the calls of driver.c that the static libraries have, beside the instructions
-of the Rust crate (original.tsv). Instructions do not depend on how busy the machine is. The cost of an empty loop is subtracted from ours.
+of the Rust crate (original.tsv); and those of the request of request.c, which is the list `request` here. Instructions do not depend on how busy the machine is. The cost of an empty loop is subtracted from ours.
 Needs cc and valgrind (Debian's packages gcc and valgrind)."""
 import functools, os, re, subprocess, sys, tempfile
 here = os.path.dirname(os.path.abspath(__file__))
@@ -13,11 +13,11 @@ kit = os.path.dirname(subprocess.run(["rt", "doc"], capture_output=True, text=Tr
 number = {f: i for i, f in enumerate(names())}
 rows = [line.split("\t") for line in open(f"{here}/original.tsv").read().splitlines()[1:]]
 for it in lists:
-    if it not in [row[0] for row in rows]: sys.exit(f"speed.py: there is no list {it}")
+    if it not in ["request", *(row[0] for row in rows)]: sys.exit(f"speed.py: there is no list {it}")
 with tempfile.TemporaryDirectory() as d:
     driver, count = f"{d}/driver", f"{d}/count.so"
     subprocess.run([sys.executable, f"{here}/make_lists.py", d], check=True)
-    subprocess.run(["cc", "-O2", "-o", driver, f"{here}/driver.c", "-Wl,--whole-archive", *libs, "-Wl,--no-whole-archive", f"{kit}/c/libos_c.a", f"{kit}/c/liblibc_c.a"], check=True)
+    subprocess.run(["cc", "-O2", "-o", driver, "-I", f"{here}/../crates/nlroute_ffi/include", f"{here}/driver.c", f"{here}/request.c", "-Wl,--whole-archive", *libs, "-Wl,--no-whole-archive", f"{kit}/c/libos_c.a", f"{kit}/c/liblibc_c.a"], check=True)
     subprocess.run(["cc", "-O2", "-shared", "-fPIC", "-o", count, f"{here}/count.c", "-ldl"], check=True)
     def run(name, family, what, k, how=(), env=()):
         return subprocess.run([*how, driver, str(number[family]), f"{d}/{name}.hex", what, str(k)], capture_output=True, text=True, env={**os.environ, **dict(env)})
@@ -29,7 +29,7 @@ with tempfile.TemporaryDirectory() as d:
         return (refs(name, family, what, 3 * k) - refs(name, family, what, k)) / (2 * k)
     @functools.lru_cache(maxsize=None)
     def empty(what):
-        return instructions("dsa1", "dsa", "loop_out" if what in ("rewrite", "rewrite_streaming", "write", "change") else "loop")
+        return instructions("dsa1", "dsa", "loop_out" if what in ("rewrite", "rewrite_streaming", "write", "change", "request") else "loop")
     def requests(name, family, what):
         a, b = (list(map(int, re.search(r"calls=(\d+) grows=(\d+)", run(name, family, what, m, (), {"LD_PRELOAD": count}.items()).stderr).groups())) for m in (10, 30))
         return "%.0f+%.0f" % tuple((y - x) / 20 for x, y in zip(a, b))
@@ -45,4 +45,7 @@ with tempfile.TemporaryDirectory() as d:
             ours[what] = instructions(name, family, what) - empty(what)
             show(name, what, ran.stdout.strip(), ours[what], other, requests(name, family, what))
             if what == "check_and_walk": show(name, "walk (difference)", "", ours[what] - ours["check"], read)
+    answer = run("dsa1", "dsa", "request", 1).stdout.strip()
+    if answer != "-5" and (not lists or "request" in lists):
+        print(f"{'bond':<14}{'request':<20}{answer:>12}{instructions('dsa1', 'dsa', 'request') - empty('request'):>10.0f}{'':>19}{requests('dsa1', 'dsa', 'request')}")
     print(f"subtracted: {empty('read'):.0f} for the loop, {empty('rewrite'):.0f} for that of the rewrites")
