@@ -1,13 +1,14 @@
 /*
- * Calls the functions of nlroute.h while allocations fail, and with buffers that are a little too short. Standard input
- * has one list per line: the number of an attribute set, a space, and hex digits. Lines that begin with # are ignored.
+ * Calls the functions of nlroute.h and nlroute_requests.h while allocations fail, and with buffers that are a little too
+ * short. Standard input has one list per line: the number of an attribute set, a space, and hex digits. Lines that begin
+ * with # are ignored.
  *
  * For each list and function, the first allocation and all later ones fail, then the second and all later ones, and so
- * on. No function may allocate again after that, and those for counts, errors, values and writing may not allocate at
- * all. The linker options --wrap=malloc, --wrap=realloc and --wrap=free let this program count allocations. It prints a
- * line for each check that fails, and then the counts.
+ * on. No function may allocate again after that, and those for counts, errors, values, writing, messages and requests
+ * may not allocate at all. The linker options --wrap=malloc, --wrap=realloc and --wrap=free let this program count
+ * allocations. It prints a line for each check that fails, and then the counts.
  */
-#include "nlroute.h"
+#include "nlroute_requests.h"
 
 #include <limits.h>
 #include <stdbool.h>
@@ -99,6 +100,45 @@ static ptrdiff_t valuing(size_t room) {
     return (void)room, written == measured ? written : NLROUTE_ABSENT;
 }
 
+/* Stores what a request has for the list: its values, in an IFLA_LINKINFO if its set is that of a kind; or else its bytes. */
+static size_t requested(struct nlroute_value *values) {
+    char name[64];
+    bool is_link = family == NLROUTE_LINK;
+    ptrdiff_t size = nlroute_family_name(family, name, sizeof name);
+    bool is_device = nlroute_from_info_kind(name, (size_t)size) == (ptrdiff_t)family;
+    if (!is_device) name[strcspn(name, "_")] = 0;
+    bool is_port = !is_device && nlroute_from_port_kind(name, strlen(name)) == (ptrdiff_t)family;
+    ptrdiff_t count = is_link || is_device || is_port ? nlroute_values(family, list, len, values + 3, MOST / 2) : 0;
+    if (count <= 0) return values[0] = nlroute_passed(NLROUTE_IFLA_AF_SPEC, NLROUTE_FORM_HELD, 0, (uint32_t)len), 1;
+    for (size_t i = 3; i < (size_t)count + 3; i++) values[i].depth += is_link ? 0 : 2;
+    if (is_link) return memmove(values, values + 3, (size_t)count * sizeof *values), (size_t)count;
+    values[0] = nlroute_list(NLROUTE_IFLA_LINKINFO);
+    values[1] = is_device ? nlroute_info_kind(name) : nlroute_port_kind(name);
+    values[2] = is_device ? nlroute_info_data() : nlroute_port_data();
+    return (size_t)count + 3;
+}
+
+/* Writes a request, finds its message, and the lists that its attributes hold. */
+static ptrdiff_t requesting(size_t room) {
+    static struct nlroute_value values[MOST / 2 + 3], first;
+    static uint8_t again[MOST + 64];
+    size_t at = 0, count = requested(values);
+    struct nlroute_head head = nlroute_create();
+    struct nlroute_message it;
+    struct nlroute_range held;
+    ptrdiff_t size = nlroute_request(&head, values, count, list, len, again, sizeof again, &at);
+    if (size < 0) return size;
+    ptrdiff_t less = nlroute_request(&head, values, count, list, len, again, (size_t)size - 1, &at);
+    if (less != NLROUTE_NO_ROOM) return NLROUTE_BAD_FORM;
+    if (nlroute_message(again, (size_t)size, 0, &it) || (ptrdiff_t)it.next != size) return NLROUTE_ABSENT;
+    if (nlroute_message_fault(again, (size_t)size, 0, &(struct nlroute_fault){0}) != NLROUTE_ABSENT) return NLROUTE_BAD_FORM;
+    ptrdiff_t found = nlroute_held(again + it.list, it.length, it.address_family, count > 1 ? family : NLROUTE_AF_SPEC, &held);
+    if (family != NLROUTE_LINK && (found || (count == 1 && held.length != len))) return NLROUTE_ABSENT;
+    if (nlroute_find(NLROUTE_LINK, again + it.list, it.length, values[0].kind, &first)) return NLROUTE_ABSENT;
+    ptrdiff_t set = nlroute_opens(NLROUTE_LINK, it.address_family, &first, again + it.list, it.length);
+    return (void)room, set < NLROUTE_ABSENT ? set : size;
+}
+
 /* The status is stored after the longest possible output. */
 static ptrdiff_t reporting(size_t room) {
     return nlroute_report(family, (const uint8_t *)text, 2 * len, out, room, &out[ROOM - 1]);
@@ -110,7 +150,8 @@ static const struct call {
     bool allocates, is_by_value;
 } calls[] = {{"rewrite", rewriting, true, false}, {"rewrite_streaming", into, true, true},
              {"count", counting, false, false},   {"first_fault", telling, false, false},
-             {"values and text", valuing, false, false}, {"report", reporting, true, false}};
+             {"values and text", valuing, false, false}, {"request and message", requesting, false, false},
+             {"report", reporting, true, false}};
 
 /* Returns how many bytes a call with this result, or a failed one, may write, and some more to check. */
 static size_t reach_of(ptrdiff_t answer) {
