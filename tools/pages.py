@@ -59,7 +59,7 @@ BUDGETS = {
     "README.md": 1220, "CONTRIBUTING.md": 2045, "bench/README.md": 580, "docs/families.md": 470, "docs/c.md": 1490, "docs/ARCHITECTURE.md": 1635,
     "docs/MAP.md": 85, "docs/json.md": 1175,
     "docs/messages.md": 760, "docs/programs.md": 2245, "docs/python.md": 1090, "docs/rattle.md": 1850,
-    "docs/rust.md": 1130, "docs/proofs/ASSURANCE.md": 1190, "docs/proofs/CLAIMS.md": 3300,
+    "docs/rust.md": 1130, "docs/proofs/ASSURANCE.md": 1195, "docs/proofs/CLAIMS.md": 3300,
     "docs/DECISIONS.md": 5000, "docs/DIFFERENCES.md": 2140, "docs/proofs/MODEL.md": 3805,
 }  # fmt: skip
 SMALL_BUDGET = 600
