@@ -1,13 +1,14 @@
-"""Prints lists of link attributes, as `nlshow` does: python -m nlroute [FILE]..
+"""Prints link attributes and messages, as `nlshow` does: python -m nlroute [FILE]..
 
 Each FILE, or standard input, has lines. Each line is one of
 
     FAMILY HEX        the bytes of a list
     check FAMILY HEX  the same; reports whether the list is canonical
+    message HEX       the bytes of one or more messages
 
 FAMILY is the name of an attribute set, such as bond. White space separates the words. Blank lines, and lines that
 begin with #, are ignored. The FILE - is standard input. Lines and status are those of nlshow(1), which also reads
-messages and captures.
+captures.
 
 Status: 0 if all input is right, 1 if not, 2 for a wrong argument or a capture, 4 if an allocation fails, 5 if reading
 or writing fails.
@@ -18,12 +19,15 @@ import os
 import re
 import sys
 from binascii import unhexlify
+from collections.abc import Callable, Iterable
+from functools import partial
 from io import BufferedReader
 from typing import cast
 
 from . import __version__
 from ._kinds import Family
-from ._show import check, show
+from ._show import check, quoted, show
+from ._show_message import show_messages
 
 USAGE = "usage: python -m nlroute [FILE].. | --help | --version"
 MOST_TEXT = 262_144  # bytes of a line
@@ -53,12 +57,6 @@ def flush() -> None:
         raise Unwritten from error
 
 
-def quoted(text: bytes) -> bytes:
-    """Returns bytes between quotes, as printable ASCII."""
-    shown = (rb"\%c" % it if it in b'"\\' else b"%c" % it if 32 <= it < 127 else rb"\x%02x" % it for it in text)
-    return b'"' + b"".join(shown) + b'"'
-
-
 def family_of(name: bytes) -> Family | None:
     try:
         return Family(name.decode())
@@ -75,25 +73,28 @@ def cut(text: bytes) -> tuple[bytes, bytes]:
 def answer(text: bytes) -> list[str]:
     """Returns the lines for a request. Those of errors are as in `is_wrong`."""
     word, rest = cut(text)
+    if word == b"message":
+        return lines_of(rest, show_messages)
     printed = show
     if word == b"check":
         word, rest = cut(rest.lstrip(SPACE))
         printed = check
-    elif word == b"message":
-        return ["messages need nlshow"]
     family = family_of(word)
-    if family is None:
-        return ["no such family"]
+    return ["no such family"] if family is None else lines_of(rest, partial(printed, family))
+
+
+def lines_of(digits: bytes, printed: Callable[[bytes], Iterable[str]]) -> list[str]:
+    """Returns the lines that are printed of the bytes in hex."""
     try:
-        data = unhexlify(rest.translate(None, SPACE))
+        data = unhexlify(digits.translate(None, SPACE))
     except ValueError:
         return ["bad hex"]
-    return printed(family, data)
+    return list(printed(data))
 
 
 def is_wrong(line: str) -> bool:
-    """Returns whether a line is an error. No line of an attribute begins so."""
-    errors = ("error at ", "not canonical at ", "messages need nlshow", "no such family", "bad hex")
+    """Returns whether a line is an error. No other line begins so."""
+    errors = ("error at ", "not canonical at ", "no such family", "bad hex")
     return line.lstrip(" ").startswith(errors)
 
 
@@ -105,7 +106,7 @@ def show_line(line: bytes) -> int:
     if line.startswith(b"#") or not line.strip(SPACE):
         return 0
     front = line[:-1] if line.endswith(b"\r") else line
-    put(front if REPEATED.fullmatch(front) else quoted(line))
+    put(front if REPEATED.fullmatch(front) else quoted(line).encode())
     lines = answer(line)
     for it in lines:
         put(it.encode())
@@ -143,7 +144,7 @@ def standard_input() -> BufferedReader:
 
 def show_file(name: str) -> int:
     """Prints what a file asks for, below its name, and returns the status."""
-    put(b"file " + quoted(os.fsencode(name)))
+    put(b"file " + quoted(os.fsencode(name)).encode())
     if name == "-":
         return show_stream(standard_input())
     try:

@@ -1,25 +1,28 @@
 """The lines that `nlshow` prints of a list, also of one that is malformed."""
 from __future__ import annotations
 
+import struct
 import sys
 from collections.abc import Iterator, Mapping
 
 from ._errors import Fault
 from ._kinds import Family, Form
-from ._library import is_canonical, opens
+from ._library import is_canonical, opens, value_text, values
 from ._read import groups, is_array, line, payload, title
 from ._records import IFINFOMSG, PEER_HEADER, record
 from ._tables import TABLES, Table
 
 HEADER = 4  # bytes of struct nlattr
+AF_BRIDGE, IFLA_PROTINFO, IFLA_BRPORT_STATE = 7, 12, 1
 MOST_LEVELS = 6  # of lists that are opened below a list
 # Names in a header (`linux/socket.h`, `if_arp.h`, `if.h`), without ARPHRD_ and IFF_.
-ADDRESS_FAMILIES = {7: "AF_BRIDGE"}
+ADDRESS_FAMILIES = {AF_BRIDGE: "AF_BRIDGE"}
 DEVICE_TYPES = {1: "ETHER", 280: "CAN", 772: "LOOPBACK", 65534: "NONE"}
-DEVICE_FLAGS = (
+DEVICE_FLAG_NAMES = (
     "UP BROADCAST DEBUG LOOPBACK POINTOPOINT NOTRAILERS RUNNING NOARP PROMISC ALLMULTI MASTER SLAVE MULTICAST PORTSEL "
     "AUTOMEDIA DYNAMIC LOWER_UP DORMANT ECHO"
 ).split()
+DEVICE_FLAGS = {1 << at: name for at, name in enumerate(DEVICE_FLAG_NAMES)}
 
 
 def pieces(data: bytes) -> Iterator[tuple[int, bytes, int]]:
@@ -68,6 +71,9 @@ def attribute_lines(
     if it.form == Form.HELD:
         yield from held_lines(table, table.name(it.kind), raw, data, start, address_family, levels)
         return
+    if it.form == Form.UNKNOWN and table.family is Family.LINK and it.kind == IFLA_PROTINFO:
+        yield from protocol_lines(table, raw, data, start, address_family, levels)
+        return
     if it.form == Form.PEER and levels:
         yield from peer_lines(table.name(it.kind), payload(it, data), start + it.offset, levels)
         return
@@ -94,22 +100,40 @@ def held_lines(
         return
     it = record(raw, 0)
     content = payload(it, data)
-    is_selected = table.list_row or family is Family.AF_SPEC_BRIDGE
+    is_selected = table.list_row or family is Family.AF_SPEC_BRIDGE or it.form == Form.UNKNOWN
     words = f"{name} ({family})" if is_selected else name
     yield words if content else f"{words} (empty)"
     below = set_lines(TABLES[family], content, start + it.offset, address_family, levels - 1)
     yield from (f"  {it}" for it in below)
 
 
+def protocol_lines(table: Table, raw: bytes, data: bytes, start: int, address_family: int, levels: int) -> Iterator[str]:
+    """Yields the lines of an IFLA_PROTINFO: of a list, of the STP state of a bridge port, or as of an unknown type. The
+    address family tells which."""
+    content = payload(record(raw, 0), data)
+    if levels and opens(table.family, address_family, raw, data):
+        yield from held_lines(table, "IFLA_PROTINFO", raw, data, start, address_family, levels)
+    elif address_family == AF_BRIDGE and len(content) == 1:
+        state = struct.pack("<HH", HEADER + 1, IFLA_BRPORT_STATE) + content
+        yield f"IFLA_PROTINFO {value_text(Family.BRIDGE_PORT, bytes(values(Family.BRIDGE_PORT, state)), state)}"
+    else:
+        yield title(table, raw, [], data)
+
+
 def peer_lines(name: str, data: bytes, start: int, levels: int) -> Iterator[str]:
     """Yields the lines of the other end of a link, whose bytes begin at an offset: a header, and a list of attributes."""
-    family, kind, index, flags, change = IFINFOMSG.unpack_from(data)
-    words = f"{name} ifindex {index}"
-    words += named(" family ", ADDRESS_FAMILIES, family) + named(" type ", DEVICE_TYPES, kind)
-    words += flagged(" flags ", flags) + flagged(" change ", change)
+    family, index, fields = header_words(data)
+    words = f"{name} ifindex {index}{fields}"
     yield words if data[PEER_HEADER:] else f"{words} (empty)"
     below = set_lines(TABLES[Family.LINK], data[PEER_HEADER:], start + PEER_HEADER, family, levels - 1)
     yield from (f"  {it}" for it in below)
+
+
+def header_words(data: bytes) -> tuple[int, int, str]:
+    """Returns the address family and the index in a `struct ifinfomsg`, and its other fields that are not 0, as words."""
+    family, kind, index, flags, change = IFINFOMSG.unpack_from(data)
+    words = named(" family ", ADDRESS_FAMILIES, family) + named(" type ", DEVICE_TYPES, kind)
+    return family, index, words + flagged(" flags ", flags) + flagged(" change ", change)
 
 
 def named(before: str, names: Mapping[int, str], number: int) -> str:
@@ -118,7 +142,19 @@ def named(before: str, names: Mapping[int, str], number: int) -> str:
 
 
 def flagged(before: str, bits: int) -> str:
-    """Returns flags by their names, unless there are none."""
-    names = [name for at, name in enumerate(DEVICE_FLAGS) if bits >> at & 1]
-    rest = bits >> len(DEVICE_FLAGS) << len(DEVICE_FLAGS)
-    return before + "|".join(names + [f"{rest:#x}"] * bool(rest)) if bits else ""
+    """Returns flags of a device by their names, unless there are none."""
+    return before + flags_text(DEVICE_FLAGS, 4, bits) if bits else ""
+
+
+def flags_text(names: Mapping[int, str], width: int, bits: int) -> str:
+    """Returns flags of `width` bytes by their names."""
+    rest = bits & ~sum(names)
+    if rest and bits == (1 << 8 * width) - 1:
+        return "all"
+    return "|".join([name for bit, name in names.items() if bits & bit] + [f"{rest:#x}"] * bool(rest)) or "0"
+
+
+def quoted(text: bytes) -> str:
+    """Returns bytes between quotes, as printable ASCII."""
+    shown = (f"\\{it:c}" if it in b'"\\' else f"{it:c}" if 32 <= it < 127 else f"\\x{it:02x}" for it in text)
+    return f'"{"".join(shown)}"'

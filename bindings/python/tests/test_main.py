@@ -7,10 +7,16 @@ import tempfile
 import unittest
 
 TOP = os.path.dirname(os.path.dirname(os.path.dirname(os.path.dirname(os.path.realpath(__file__)))))
-# The folders of runs/ with the requests that are taken of them: all for lists. The debug form of checks is the same
-FOLDERS = {"plain": re.compile(rb"(?!message)"), "debug": re.compile(rb"check ")}
+# The folders of runs/ with the requests that are taken of them. The debug form of checks is the same
+FOLDERS = {"plain": re.compile(rb""), "debug": re.compile(rb"check ")}
 LIST = "dsa 08000100 2a000000\n"
 PRINTED = LIST + "  IFLA_DSA_CONDUIT ifindex 42\n"
+
+ACK = "message 24000000 0200 0000 05000000 00000000 00000000 20000000 1000 0506 05000000 00000000\n"
+REFUSAL = ACK.replace(" 00000000 2", " efffffff 2")
+ALL = "message 20000000 1000 ffff 01000000 00000000 00000000 ffffffff ffffffff 01000080\n"
+SHORT = "message 10000000 1300 0000 01000000 00000000\n"
+PEER = "veth 14000100 00000000 00000000 ffffffff 00000000\n"
 
 
 def run(*words, given=b"", **options):
@@ -67,7 +73,15 @@ class Lines(unittest.TestCase):
             ("dsa zz\n", 1, "dsa zz\nbad hex\n"),
             ("dsa 0\v8\n", 1, '"dsa 0\\x0b8"\nbad hex\n'),
             ("dsa \u00e9\r\n", 1, '"dsa \\xc3\\xa9\\x0d"\nbad hex\n'),
-            ("message 00\n", 1, "message 00\nmessages need nlshow\n"),
+            (ACK, 0, ACK + "NLMSG_ERROR len 36 flags 0 seq 5 pid 0\n  ack\n"),
+            (REFUSAL, 0, REFUSAL + "NLMSG_ERROR len 36 flags 0 seq 5 pid 0\n  error EEXIST (-17)\n"),
+            (ALL, 0, ALL + "RTM_NEWLINK len 32 flags all seq 1 pid 0\n  ifindex -1 flags all change UP|0x80000000\n"),
+            ("message\n", 0, "message\n"),
+            ("message 0\n", 1, "message 0\nbad hex\n"),
+            ("message 00\n", 1, "message 00\nerror at 0: 1 byte left, too few for a message header\n"),
+            (SHORT, 1, SHORT + "RTM_SETLINK len 16 flags 0 seq 1 pid 0\n  error at 0: 16 bytes, too few for a link message\n"),
+            ("check " + SHORT, 1, "check " + SHORT + "no such family\n"),
+            (PEER, 0, PEER + "  VETH_INFO_PEER ifindex 0 flags all (empty)\n"),
             ("dsa\r\n" + LIST[:-1], 0, "dsa\n" + PRINTED),
         ]
         for given, status, printed in rows:
