@@ -1,17 +1,17 @@
-"""Prints link attributes and messages, as `nlshow` does: python -m nlroute [FILE]..
+"""Prints link attributes, messages and captures, as `nlshow` does: python -m nlroute [--raw] [FILE]..
 
-Each FILE, or standard input, has lines. Each line is one of
+Each FILE, or standard input, is a capture of netlink, pcap or pcapng, or has lines. With --raw, it is messages, as
+`rtmon` records them. Each line is one of
 
     FAMILY HEX        the bytes of a list
     check FAMILY HEX  the same; reports whether the list is canonical
     message HEX       the bytes of one or more messages
 
 FAMILY is the name of an attribute set, such as bond. White space separates the words. Blank lines, and lines that
-begin with #, are ignored. The FILE - is standard input. Lines and status are those of nlshow(1), which also reads
-captures.
+begin with #, are ignored. The FILE - is standard input. Lines and status are those of nlshow(1).
 
-Status: 0 if all input is right, 1 if not, 2 for a wrong argument or a capture, 4 if an allocation fails, 5 if reading
-or writing fails.
+Status: 0 if all input is right, 1 if not, 2 for a wrong argument or a file in another format, 4 if an allocation fails,
+5 if reading or writing fails.
 """
 from __future__ import annotations
 
@@ -25,16 +25,16 @@ from io import BufferedReader
 from typing import cast
 
 from . import __version__
+from ._capture import OTHER_FORMATS, Source, show_capture, show_stream_of_messages
 from ._kinds import Family
 from ._show import check, quoted, show
 from ._show_message import show_messages
 
-USAGE = "usage: python -m nlroute [FILE].. | --help | --version"
+USAGE = "usage: python -m nlroute [--raw] [FILE].. | --help | --version"
 MOST_TEXT = 262_144  # bytes of a line
 SPACE = b" \t\r\n"
 REPEATED = re.compile(rb"[ -~\t]*")
-# The first bytes of pcap and pcapng files
-MAGIC = re.compile(rb"\xa1\xb2[\xc3\x3c][\xd4\x4d]|[\xd4\x4d][\xc3\x3c]\xb2\xa1|\n\r\r\n")
+CHUNK = 65_536  # bytes of one read, at most
 WRONG, MISUSED, NO_MEMORY, FAILED = 1, 2, 4, 5
 
 
@@ -43,7 +43,7 @@ class Unwritten(Exception):
 
 
 def put(line: bytes) -> None:
-    """Writes a line. What was written before is written at once, so that another program may wait for it."""
+    """Writes a line, which `flush` passes on."""
     try:
         sys.stdout.buffer.write(line + b"\n")
     except OSError as error:
@@ -94,7 +94,7 @@ def lines_of(digits: bytes, printed: Callable[[bytes], Iterable[str]]) -> list[s
 
 def is_wrong(line: str) -> bool:
     """Returns whether a line is an error. No other line begins so."""
-    errors = ("error at ", "not canonical at ", "no such family", "bad hex")
+    errors = ("error at ", "not canonical at ", "no such family", "bad hex", "input error at ")
     return line.lstrip(" ").startswith(errors)
 
 
@@ -107,46 +107,66 @@ def show_line(line: bytes) -> int:
         return 0
     front = line[:-1] if line.endswith(b"\r") else line
     put(front if REPEATED.fullmatch(front) else quoted(line).encode())
-    lines = answer(line)
-    for it in lines:
-        put(it.encode())
-    return WRONG if any(map(is_wrong, lines)) else 0
+    return put_all(answer(line))
 
 
-def read_line(stream: BufferedReader) -> bytes | None:
+def put_all(lines: Iterable[str]) -> int:
+    """Prints lines, and returns the status: whether one is an error."""
+    status = 0
+    for line in lines:
+        put(line.encode())
+        status = WRONG if is_wrong(line) else status
+    return status
+
+
+def read_line(source: Source) -> bytes | None:
     """Returns the next line without its LF, or its start if it is too long, or None at the end."""
-    line = rest = stream.readline(MOST_TEXT + 2)
+    line = rest = source.line(MOST_TEXT + 2)
     while len(rest) == MOST_TEXT + 2 and not rest.endswith(b"\n"):
-        rest = stream.readline(MOST_TEXT + 2)
+        rest = source.line(MOST_TEXT + 2)
     return line.removesuffix(b"\n") if line else None
 
 
-def show_stream(stream: BufferedReader) -> int:
-    """Prints what the lines of an input ask for, and returns the status."""
-    status = 0
-    flush()
+def show_stream(raw: bool, stream: BufferedReader) -> int:
+    """Prints what an input asks for, and returns the status."""
+
+    def read() -> bytes:
+        # (another program may wait for the answer, before it writes more)
+        flush()
+        return stream.read1(CHUNK)
+
     try:
-        if MAGIC.match(stream.peek(4)):
-            put(b"a capture: nlshow prints it")
-            return MISUSED
-        while (line := read_line(stream)) is not None:
-            status = max(status, show_line(line))
-            flush()
+        return show_source(raw, Source(read))
     except OSError:
         put(b"read fault")
         return FAILED
-    return status
+
+
+def show_source(raw: bool, source: Source) -> int:
+    """Prints what an input asks for: as messages, if `raw` is set, otherwise as its first bytes say."""
+    if raw:
+        return put_all(show_stream_of_messages(source))
+    magic = source.magic()
+    if magic is None:
+        status = 0
+        while (line := read_line(source)) is not None:
+            status = max(status, show_line(line))
+        return status
+    if magic in OTHER_FORMATS:
+        put(OTHER_FORMATS[magic].encode())
+        return MISUSED
+    return put_all(show_capture(source, magic))
 
 
 def standard_input() -> BufferedReader:
     return cast(BufferedReader, sys.stdin.buffer)
 
 
-def show_file(name: str) -> int:
+def show_file(raw: bool, name: str) -> int:
     """Prints what a file asks for, below its name, and returns the status."""
     put(b"file " + quoted(os.fsencode(name)).encode())
     if name == "-":
-        return show_stream(standard_input())
+        return show_stream(raw, standard_input())
     try:
         stream = open(name, "rb")
     except IsADirectoryError:
@@ -156,13 +176,13 @@ def show_file(name: str) -> int:
         put(b"cannot open")
         return FAILED
     with stream:
-        return show_stream(stream)
+        return show_stream(raw, stream)
 
 
-def run(names: list[str]) -> int:
+def run(raw: bool, names: list[str]) -> int:
     """Prints what all inputs ask for, and returns the greatest status."""
     try:
-        status = max(map(show_file, names)) if names else show_stream(standard_input())
+        status = max(show_file(raw, it) for it in names) if names else show_stream(raw, standard_input())
     except MemoryError:
         put(b"no memory")
         status = NO_MEMORY
@@ -172,18 +192,21 @@ def run(names: list[str]) -> int:
 
 def main(words: list[str]) -> int:
     options = words[: words.index("--")] if "--" in words else words
-    wrong = next((it for it in options if it.startswith("-") and it != "-"), None)
+    wrong = next((it for it in options if it.startswith("-") and it not in ("-", "--raw")), None)
     if wrong in ("-h", "--help"):
         print(USAGE, __doc__, sep="\n\n", end="")
     elif wrong in ("-V", "--version"):
         print("nlroute", __version__)
+    elif options.count("--raw") > 1:
+        print("error: the argument '--raw' cannot be used multiple times", USAGE, sep="\n", file=sys.stderr)
+        return MISUSED
     elif wrong is not None:
         print(f"error: unexpected argument '{wrong}' found", USAGE, sep="\n", file=sys.stderr)
         return MISUSED
     else:
-        names = [it for at, it in enumerate(words) if it != "--" or "--" in words[:at]]
+        names = [it for it in options if it != "--raw"] + words[len(options) + 1 :]
         try:
-            return run(names)
+            return run("--raw" in options, names)
         except Unwritten as error:
             if not isinstance(error.__cause__, BrokenPipeError):
                 print("write fault", file=sys.stderr)

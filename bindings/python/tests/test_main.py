@@ -1,14 +1,27 @@
 """python -m nlroute: what it prints for the lines of runs/, its arguments, and its status."""
+import io
 import os
 import re
+import shlex
 import subprocess
 import sys
 import tempfile
 import unittest
+from unittest import mock
+
+from nlroute.__main__ import main
 
 TOP = os.path.dirname(os.path.dirname(os.path.dirname(os.path.dirname(os.path.realpath(__file__)))))
+sys.path.append(os.path.join(TOP, "tools"))
+import runs as stored_runs  # noqa: E402
+
 # The folders of runs/ with the requests that are taken of them. The debug form of checks is the same
 FOLDERS = {"plain": re.compile(rb""), "debug": re.compile(rb"check ")}
+# The head of a run whose options this program has not
+OTHER_OPTIONS = re.compile(rb"^arguments:.* --?(format|check|brief)\b", re.MULTILINE)
+# The head of a run with other arguments than --raw, or whose output cannot be written
+FILES = re.compile(rb"^arguments: (?!--raw$)|^stdout: full", re.MULTILINE)
+PROGRAM = [sys.executable, "-m", "nlroute"]
 LIST = "dsa 08000100 2a000000\n"
 PRINTED = LIST + "  IFLA_DSA_CONDUIT ifindex 42\n"
 
@@ -23,10 +36,18 @@ def run(*words, given=b"", **options):
     """Runs the program, and returns its status and output. Nothing is on standard error, unless it is returned too."""
     if isinstance(given, str):
         given = given.encode()
-    done = subprocess.run([sys.executable, "-m", "nlroute", *words], input=given, capture_output=True, **options)
+    done = subprocess.run([*PROGRAM, *words], input=given, capture_output=True, **options)
     if done.stderr:
         return done.returncode, done.stdout.decode(), done.stderr.decode()
     return done.returncode, done.stdout.decode()
+
+
+def run_here(words, given):
+    """Runs the program in this process, and returns its status and output."""
+    output = io.TextIOWrapper(io.BytesIO())
+    stdin = io.TextIOWrapper(io.BufferedReader(io.BytesIO(given)))
+    with mock.patch("sys.stdin", stdin), mock.patch("sys.stdout", output):
+        return main(words), output.buffer.getvalue()
 
 
 def runs(folder, request):
@@ -44,6 +65,19 @@ def runs(folder, request):
             elif line and line[:1] not in b"#<|":
                 lines.append(line)
         yield name, found
+
+
+def files_of(folder):
+    """Yields the names of the files of a folder of runs/, at any depth, except stored input."""
+    for above, _, names in os.walk(os.path.join(TOP, "runs", folder)):
+        if os.path.basename(above) != "inputs":
+            yield from (os.path.relpath(os.path.join(above, name), os.path.join(TOP, "runs")) for name in sorted(names))
+
+
+def head_of(name):
+    """Returns the head of a file of runs/."""
+    with open(os.path.join(TOP, "runs", name), "rb") as file:
+        return file.read().partition(b"\n\n")[0]
 
 
 class Lines(unittest.TestCase):
@@ -96,12 +130,58 @@ class Lines(unittest.TestCase):
             self.assertEqual(run(given=line + "\n" + LIST), (1, "input too long\n" + PRINTED))
 
     def test_answers_at_once(self):
-        program = [sys.executable, "-m", "nlroute"]
-        with subprocess.Popen(program, stdin=subprocess.PIPE, stdout=subprocess.PIPE) as running:
+        with subprocess.Popen(PROGRAM, stdin=subprocess.PIPE, stdout=subprocess.PIPE) as running:
             for _ in range(3):
                 running.stdin.write(LIST.encode())
                 running.stdin.flush()
                 self.assertEqual(running.stdout.read(len(PRINTED)), PRINTED.encode())
+            running.stdin.close()
+            self.assertEqual((running.stdout.read(), running.wait()), (b"", 0))
+
+
+class Captures(unittest.TestCase):
+    def test_runs(self):
+        count = 0
+        for name in files_of("captures"):
+            for it in stored_runs.runs_of(TOP, name) if not FILES.search(head_of(name)) else ():
+                count += 1
+                given = it.stdin
+                if it.input:
+                    with open(os.path.join(TOP, "runs", os.path.dirname(name), it.input), "rb") as file:
+                        given = file.read()
+                status, printed = run_here(it.arguments, given)
+                with self.subTest(run=name):
+                    self.assertIsNone(stored_runs.difference(it.stdout, printed))
+                    self.assertEqual(status, it.status)
+        self.assertGreater(count, 400)
+
+    def test_runs_with_files(self):
+        # (tools/runs.py runs the program in a folder with the files, and compares the output and the status)
+        with tempfile.TemporaryDirectory() as folder:
+            program = os.path.join(folder, "nlshow")
+            with open(program, "w") as file:
+                file.write(f'#!/bin/sh\nexec {shlex.quote(sys.executable)} -m nlroute "$@"\n')
+            os.chmod(program, 0o700)
+            path = os.pathsep.join(it for it in map(os.path.abspath, sys.path) if os.path.isdir(it))
+            heads = {name: head_of(name) for name in files_of("captures")}
+            names = [name for name, it in heads.items() if FILES.search(it) and not OTHER_OPTIONS.search(it)]
+            self.assertGreater(len(names), 50)
+            words = [sys.executable, os.path.join(TOP, "tools/runs.py"), "--binary", f"nlshow={program}", *names]
+            done = subprocess.run(words, capture_output=True, text=True, env={**os.environ, "PYTHONPATH": path})
+            self.assertEqual(done.returncode, 0, done.stdout + done.stderr)
+
+    def test_answers_at_once(self):
+        # a pcap file with an NLMSG_NOOP in each packet
+        header = bytes.fromhex("d4c3b2a1 02000400 00000000 00000000 00000400 fd000000")
+        record = bytes.fromhex("bbd4096b 00000000 20000000 20000000 00040338" + 12 * "00" + "10000000 01000000" + 8 * "00")
+        lines = "packet {} time 2026-11-27T19:06:35.000000Z len 32\nNLMSG_NOOP len 16 flags 0 seq 0 pid 0\n"
+        with subprocess.Popen(PROGRAM, stdin=subprocess.PIPE, stdout=subprocess.PIPE) as running:
+            running.stdin.write(header)
+            for number in range(1, 4):
+                running.stdin.write(record)
+                running.stdin.flush()
+                printed = lines.format(number).encode()
+                self.assertEqual(running.stdout.read(len(printed)), printed)
             running.stdin.close()
             self.assertEqual((running.stdout.read(), running.wait()), (b"", 0))
 
@@ -114,27 +194,24 @@ class Arguments(unittest.TestCase):
             printed = f'file "a\\"b"\n{PRINTED}file "-"\n{PRINTED}file "none"\ncannot open\nfile "."\nread fault\n'
             self.assertEqual(run('a"b', "-", "none", ".", given=LIST, cwd=folder), (5, printed))
             self.assertEqual(run("--", 'a"b', cwd=folder), (0, f'file "a\\"b"\n{PRINTED}'))
-            with open(os.path.join(folder, "c.pcapng"), "wb") as file:
-                file.write(b"\n\r\r\n\x1c\0\0\0")
-            self.assertEqual(run("c.pcapng", cwd=folder), (2, 'file "c.pcapng"\na capture: nlshow prints it\n'))
 
     def test_options(self):
         status, printed = run("--help")
-        usage = "usage: python -m nlroute [FILE].. | --help | --version"
+        usage = "usage: python -m nlroute [--raw] [FILE].. | --help | --version"
         self.assertEqual((status, printed.splitlines()[0]), (0, usage))
         self.assertRegex(run("-V")[1], r"^nlroute \d+\.\d+\.\d+\n$")
         status, printed, said = run("--json", given=LIST)
         self.assertEqual((status, printed, said.splitlines()[0]), (2, "", "error: unexpected argument '--json' found"))
+        self.assertEqual(run("--raw", "--raw")[:2], (2, ""))
 
     def test_failed_writes(self):
-        program = [sys.executable, "-m", "nlroute"]
         with open("/dev/full", "w") as full:
-            done = subprocess.run(program, input=LIST, stdout=full, stderr=subprocess.PIPE, text=True)
+            done = subprocess.run(PROGRAM, input=LIST, stdout=full, stderr=subprocess.PIPE, text=True)
         self.assertEqual((done.returncode, done.stderr), (5, "write fault\n"))
         # the reader has ended
         reading, writing = os.pipe()
         os.close(reading)
-        done = subprocess.run(program, input=LIST, stdout=writing, stderr=subprocess.PIPE, text=True)
+        done = subprocess.run(PROGRAM, input=LIST, stdout=writing, stderr=subprocess.PIPE, text=True)
         os.close(writing)
         self.assertEqual((done.returncode, done.stderr), (5, ""))
 
