@@ -1,5 +1,5 @@
-//! Reads, prints and writes lists of netlink link attributes, such as the payload of `IFLA_INFO_DATA`, and reads messages
-//! about links.
+//! Reads, prints and writes lists of netlink link attributes, such as the payload of `IFLA_INFO_DATA`. Reads messages about
+//! links, and writes requests.
 //!
 //! The work is done by the C library nlroute, whose parsers and writers are proved to meet their contracts. This crate
 //! adds types: a [`Key`] knows its attribute set and the type of its values, so a wrong one does not compile.
