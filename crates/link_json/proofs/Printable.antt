@@ -1,11 +1,9 @@
 -- The texts of documents are printable, and printable texts are UTF-8.
-use Rattle.std.proofs.Common.{◌≡◌, ◌≢◌, ℕ, zero, suc, ◌/◌, ◌%◌, ◌<◌, Bool, true, false, List, [], ◌∷◌, refl, arith, map, take, drop, length, slice_index, codes}
-use Rattle.std.specs.Prelude.{nat_lt, IsUtf8}
-use Rattle.std.specs.Char.{to_ascii_lowercase}
+use Rattle.std.proofs.Common.{◌≡◌, ◌≢◌, ℕ, zero, suc, ◌/◌, ◌%◌, ◌<◌, Bool, true, false, List, [], ◌∷◌, refl, arith, map, length, slice_index, codes}
+use Rattle.std.specs.Prelude.{IsUtf8}
 use Rattle.std.specs.List.{list_all}
-use Rattle.std.specs.Str.{bytes_eq, is_utf8}
-use Rattle.std.proofs.lemmas.Bool.{and_parts, ltb-true, cond-true, cond-false}
-use Rattle.std.proofs.lemmas.Bool.Decides.{nat_tests}
+use Rattle.std.specs.Str.{is_utf8}
+use Rattle.std.proofs.lemmas.Bool.{and_parts, cond-true, cond-false}
 use Rattle.std.proofs.lemmas.Str.{IsUtf8-from_is_utf8, is_utf8-from_IsUtf8}
 use Rattle.json.specs.Json.{string}
 use Rattle.hex.specs.Hex.{encode_with, encode_lower, lower_digits}
@@ -13,8 +11,7 @@ use Rattle.link_base.specs.WellFormed.{is_printable}
 use Rattle.link_show.specs.Octets.{byte_text, address_text}
 use Rattle.link_show.specs.Printable.{IsText}
 use Rattle.link_show.specs.Text.{joined}
-use Rattle.link_show.proofs.Printing.{text, none, one, either}
-use Rattle.link_json.specs.Names.{without, short_name}
+use Rattle.link_show.proofs.Printing.{none, one}
 use Rattle.link_json.specs.Value.{text_json, opaque_json}
 
 -- ---- hexadecimal
@@ -31,29 +28,6 @@ pub encoded_text : (bytes : List ℕ) → ((i : ℕ) → slice_index bytes i < 2
 unfolding encode_with
 encoded_text [] h = none
 encoded_text (b ∷ bytes) h = let k = h 0 in one (digit (b / 16) (omega (arith, k))) (one (digit (b % 16) (omega arith)) (encoded_text bytes (λ i. h (suc i))))
-
--- ---- names
-
-lower : (b : ℕ) → is_printable b ≡ true → is_printable (to_ascii_lowercase b) ≡ true
-lower b h =
-    let k = and_parts (nat_lt 31 b) (nat_lt b 127) h in
-    let low = ltb-true 31 b k.0 in
-    let high = ltb-true b 127 k.1 in
-    grind (arith, nat_tests, low, high)
-
-all_lower : (t : List ℕ) → list_all is_printable t ≡ true → IsText (map to_ascii_lowercase t)
-all_lower [] h = none
-all_lower (b ∷ t) h = let k = and_parts (is_printable b) (list_all is_printable t) h in one (lower b k.0) (all_lower t k.1)
-
-all_after : (n : ℕ) (t : List ℕ) → list_all is_printable t ≡ true → list_all is_printable (drop n t) ≡ true
-all_after zero t h = h
-all_after (suc n) [] h = refl
-all_after (suc n) (b ∷ t) h = all_after n t (and_parts (is_printable b) (list_all is_printable t) h).1
-
-pub short_text : (prefix name : List ℕ) → IsText name → IsText (short_name prefix name)
-short_text prefix name h =
-    let rest : IsText (without prefix name) = either (bytes_eq (take (length prefix) name) prefix) (text (all_after (length prefix) name h.printable)) h in
-    all_lower (without prefix name) rest.printable
 
 -- ---- addresses
 

@@ -22,7 +22,6 @@ use Rattle.link_messages.specs.Walk.{Item, Walk}
 use Rattle.link_show.specs.Fault.{fault_text}
 use Rattle.link_show.specs.Held.{is_state, state_names}
 use Rattle.link_show.specs.List.{ip_text}
-use Rattle.link_show.specs.Printable.{IsText}
 use Rattle.link_json.specs.Doc.{object_of, array_of, fields_tokens, each_tokens, element_json, error_json}
 use Rattle.link_json.specs.Names.{short_name}
 use Rattle.link_json.specs.Value.{content_json, enum_json, labelled_json, unnamed_json, header_fields, whole_link}
@@ -99,11 +98,6 @@ abbrev pub ShowsArray : (List Json → Bool → Type 0) → Json → Bool → Ty
 ShowsArray shows value well = (js : List Json) × shows js well × (value ≡ array_of js)
 
 -- ---- what functions write
-
--- the name of an attribute type, if it has one, is printable
-abbrev pub HasText : Option Label → Type 0
-HasText None = Unit {0}
-HasText (Some label) = IsText label.name
 
 -- elements were written
 abbrev pub Adds : List Token → List Token → List Json → Type 0

@@ -6,9 +6,8 @@ ghost use Rattle.json.specs.Tree.{json_tokens};
 ghost use Rattle.link_base.specs.Buffer.{payload_of};
 ghost use Rattle.link_base.specs.Labels.{label_in, label_of};
 ghost use Rattle.link_messages.specs.Shown.{holder_of};
-ghost use Rattle.link_show.specs.Printable.{IsText};
 ghost use Rattle.link_json.specs.Doc.{each_tokens};
-ghost use Rattle.link_json.specs.List.{ShowsFlat, ShowsPlain, HasText, holder_name, held_front, holder_front, holder_back, shows_leaf, state_json, if_sized};
+ghost use Rattle.link_json.specs.List.{ShowsFlat, ShowsPlain, holder_name, held_front, holder_front, holder_back, shows_leaf, state_json, if_sized};
 ghost use Rattle.link_json.specs.List.{WritesOne, WritesAddresses};
 
 use crate::links::write_link_header;
@@ -24,7 +23,6 @@ use std::alloc::AllocError;
 
 /// Begins an attribute that holds a list: writes its name, and begins its value.
 pub(crate) fn begin_holder(sheet: &mut Sheet, held: &HeldList<'_>) -> Result<(), AllocError>
-    requires { HasText (holder_of held.now).label }
     ensures { OnOk result (sheet.new ≡ sheet.old ++ holder_front (holder_of held.now)) }
 {
     sheet.begin_object()?;
@@ -65,7 +63,6 @@ pub(crate) fn end_holder(sheet: &mut Sheet, header: Option<LinkHeader>) -> Resul
 
 /// Writes the name of an attribute that holds a list. One without a row is an `IFLA_PROTINFO`.
 fn write_holder_name(sheet: &mut Sheet, label: &Option<KindLabel>) -> Result<(), AllocError>
-    requires { HasText (label_in label.now) }
     ensures { OnOk result (sheet.new ≡ sheet.old ++ string (holder_name (label_in label.now)) ∷ []) }
 {
     match label {
@@ -81,8 +78,7 @@ pub(crate) fn write_leaf(
     known: &Known<'_>,
     buffer: NlaBuffer<'_>,
 ) -> Result<(), AllocError>
-    requires text { HasText (label_in known.now.label) }
-    requires state { IsTrue is_state → length (payload_of buffer) ≡ 1 }
+    requires { IsTrue is_state → length (payload_of buffer) ≡ 1 }
     ensures { OnOk result (WritesOne (shows_leaf is_state (label_in known.now.label) buffer.entry known.now.content) sheet.old sheet.new) }
 {
     if is_state {
@@ -109,7 +105,6 @@ fn write_plain(
     known: &Known<'_>,
     buffer: NlaBuffer<'_>,
 ) -> Result<(), AllocError>
-    requires { HasText (label_in known.now.label) }
     ensures { OnOk result (WritesOne (ShowsPlain (label_in known.now.label) buffer.entry known.now.content) sheet.old sheet.new) }
 {
     match &known.label {
@@ -125,7 +120,6 @@ fn write_labelled(
     buffer: NlaBuffer<'_>,
     content: Content<'_>,
 ) -> Result<(), AllocError>
-    requires { IsText label.now.name.now }
     ensures { OnOk result (WritesOne (ShowsPlain (Some (label_of label.now)) buffer.entry content.entry) sheet.old sheet.new) }
 {
     sheet.begin_object()?;

@@ -14,7 +14,7 @@ use crate::sheet::Sheet;
 use itoa::Buffer;
 use link_base::rows::form::ArrayOf;
 use link_base::rows::label::{Name, name_of};
-use link_show::{number_at, signed_at};
+use link_show::{names_from, number_at, signed_at};
 use std::alloc::AllocError;
 
 /// Writes the number of an enum, and its name.
@@ -88,9 +88,11 @@ fn write_places(
     ensures { OnOk result (sheet.new ≡ sheet.old
         ++ json_tokens (object_of (places_json (names_in names.now) of 0 (numbers_of (size_in of) bytes.now)))) }
 {
+    let mut left = names;
     sheet.begin_object()?;
     for i in 0..bytes.len() / of.size() {
-        write_place(sheet, names, i as u64)?;
+        left = names_from(left, i as u64);
+        write_place(sheet, left, i as u64)?;
         write_item(sheet, of, i, bytes)?;
     }
     sheet.end_object()

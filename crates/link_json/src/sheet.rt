@@ -21,6 +21,8 @@ pub struct Sheet {
     pub(crate) writer: Writer<Global>,
     /// The text of a token, before it is written.
     pub(crate) text: Vec<u8>,
+    /// The name of an attribute, before it is written.
+    pub(crate) name: String,
 }
 
 impl Model for Sheet {
@@ -41,6 +43,7 @@ impl Sheet {
         Sheet {
             writer: Writer::new(Vec::new(alloc)),
             text: Vec::new(alloc),
+            name: String::new(alloc),
         }
     }
 
@@ -119,10 +122,13 @@ impl Sheet {
         self.writer.key(name)
     }
 
-    /// Writes a number.
+    /// Writes a number. Most are 0.
     pub fn number(&mut self, n: u64) -> Result<(), AllocError>
         ensures { OnOk result (self.new ≡ self.old ++ json_tokens (number_json n)) }
     {
+        if n == 0 {
+            return self.writer.number("0");
+        }
         self.writer.u64(n)
     }
 
@@ -130,6 +136,9 @@ impl Sheet {
     pub(crate) fn signed(&mut self, n: i32) -> Result<(), AllocError>
         ensures { OnOk result (self.new ≡ self.old ++ json_tokens (signed_json n)) }
     {
+        if n == 0 {
+            return self.writer.number("0");
+        }
         self.writer.i64(n.into())
     }
 

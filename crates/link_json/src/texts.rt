@@ -1,7 +1,6 @@
 //! The texts in a document.
 
-ghost use Rattle.std.specs.Prelude.{◌≡◌, ◌++◌, ◌∷◌, [], OnOk, decimal, map};
-ghost use Rattle.std.specs.Char.{to_ascii_lowercase};
+ghost use Rattle.std.specs.Prelude.{◌≡◌, ◌++◌, ◌∷◌, [], OnOk, decimal};
 ghost use Rattle.hex.specs.Hex.{encode_lower};
 ghost use Rattle.json.specs.Token.{string};
 ghost use Rattle.json.specs.Tree.{json_tokens};
@@ -120,11 +119,12 @@ impl Sheet {
 
     /// Writes the name of an attribute type: `name` without `prefix`, in lower case.
     pub(crate) fn short_name(&mut self, prefix: &str, name: &str) -> Result<(), AllocError>
-        requires { IsText name.now }
         ensures { OnOk result (self.new ≡ self.old ++ string (short_name prefix.now name.now) ∷ []) }
     {
-        lower(&mut self.text, without(prefix, name.as_bytes()))?;
-        push(&mut self.writer, &self.text)
+        self.name.clear();
+        self.name.push_str(without(prefix, name))?;
+        self.name.make_ascii_lowercase();
+        self.writer.string(&self.name)
     }
 }
 
@@ -140,21 +140,11 @@ fn spell(text: &mut Vec<u8>, bytes: &[u8]) -> Result<(), AllocError>
     }
 }
 
-/// Stores bytes with letters in lower case.
-fn lower(text: &mut Vec<u8>, bytes: &[u8]) -> Result<(), AllocError>
-    ensures { OnOk result (text.new.items ≡ map to_ascii_lowercase bytes.now) }
-{
-    text.clear();
-    text.extend_from_slice(bytes)?;
-    text.make_ascii_lowercase();
-    Ok(())
-}
-
 /// Returns what follows a prefix; the whole text, if it does not begin with that.
-fn without<'a>(prefix: &str, text: &'a [u8]) -> &'a [u8]
+fn without<'a>(prefix: &str, text: &'a str) -> &'a str
     ensures { result.now ≡ without prefix.now text.now }
 {
-    match text.strip_prefix(prefix.as_bytes()) {
+    match text.strip_prefix(prefix) {
         Some(rest) => rest,
         None => text,
     }

@@ -1,6 +1,5 @@
 pub mod Written
 pub mod Digits
-pub mod Stored
 pub mod Pieced
 pub mod Segments
 pub mod FlagWords

@@ -6,4 +6,4 @@ use Rattle.link_show.specs.Sink.{Output, Through}
 
 -- what the writer has, and what is kept for it
 abbrev pub through : {W : Type 0} → (W → Option (List ℕ)) → Page W → Output
-through contents page = Through page.writer.ghost_name (append_known (contents page.writer.now) page.kept)
+through contents page = Through page.writer.ghost_name (append_known (contents page.writer.now) page.kept.items)

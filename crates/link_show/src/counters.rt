@@ -83,7 +83,7 @@ fn write_words<W: Sink>(
 
 /// Returns the names without those at the front of places before this one. Names are mostly in order, so the next that is
 /// looked up is then the first.
-fn names_from(names: &[Name], place: u64) -> &[Name]
+pub fn names_from(names: &[Name], place: u64) -> &[Name]
     ensures { (k : ℕ) → place ≤ k → name_in (names_in result.now) k ≡ name_in (names_in names.now) k }
 {
     for i in 0..names.len() {

@@ -42,6 +42,7 @@ mod verdicts;
 
 pub use addresses::{write_addresses, write_ip};
 pub use attributes::{TYPE_FLAGS, write_attribute};
+pub use counters::names_from;
 pub use families::write_family_list;
 pub use faults::write_fault;
 pub use flags::{write_enum, write_flags};

@@ -11,7 +11,7 @@ returns-then-is_state c =
     let b = c.args.buffer in
     let known = c.args.known.now in
     let p = slice_index c.value.result.now 0 ∷ [] in
-    let byte : p ≡ payload_of b = one_byte c.value.result.now (ap length c.value.ensures ∙ c.requires.state c.if-is_state.true) ∙ c.value.ensures in
+    let byte : p ≡ payload_of b = one_byte c.value.result.now (ap length c.value.ensures ∙ c.requires c.if-is_state.true) ∙ c.value.ensures in
     on_ok c.write_state.result
     (λ e. (state_json p, subst (λ state. shows_leaf state (label_in known.label) b known.content (state_json p)) (sym c.if-is_state.true) (ap state_json byte), e))
     c.write_state.ensures

@@ -1,20 +1,14 @@
 use Rattle.std.proofs.Common.{[], ◌∷◌, refl, subst}
-use Rattle.link_base.specs.Buffer.{kind_field_of}
-use Rattle.link_base.specs.Frame.{kind_of}
 use Rattle.link_base.specs.Labels.{label_in}
 use Rattle.link_show.proofs.HeldLines.{state_long}
 use Rattle.link_show.specs.Held.{is_state}
 use Rattle.link_json.specs.List.{shows_leaf}
 use Rattle.link_json.proofs.Listing.{adds_one}
 use Rattle.link_json.proofs.Loops.{on_ok}
-use Rattle.link_json.proofs.Valued.{set_text}
 use Rattle.link_json.proofs.lists.ElementVisitorListVisitorSheet.leaf.Goals as goal
 
-pub write_leaf-requires-clause-text : goal.write_leaf-requires-clause-text
-write_leaf-requires-clause-text c = set_text c.args.family (label_in c.args.known.now.label) (c.args.list, kind_of (kind_field_of c.args.buffer), c.requires.known.label)
-
-pub write_leaf-requires-clause-state : goal.write_leaf-requires-clause-state
-write_leaf-requires-clause-state c = state_long c.args.context.now c.args.family c.args.list c.args.buffer c.is_state-state.result c.is_state-state.ensures
+pub write_leaf-requires : goal.write_leaf-requires
+write_leaf-requires c = state_long c.args.context.now c.args.family c.args.list c.args.buffer c.is_state-state.result c.is_state-state.ensures
 
 pub returns : goal.returns
 returns c =
