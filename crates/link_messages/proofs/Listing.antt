@@ -1,20 +1,15 @@
--- Items that are shown, one after another, and lists: one attribute more, and the end.
-use Rattle.std.proofs.Common.{◌≡◌, ◌≢◌, ℕ, ◌-◌, Bool, true, false, ◌&&◌, List, [], ◌∷◌, ◌++◌, length, Option, Some, None, Err, refl, sym, ap, ap₂, subst, ◌∙◌, inl, inr}
+-- Items that are shown, one after another.
+use Rattle.std.proofs.Common.{ℕ, ◌-◌, Bool, true, ◌&&◌, List, [], ◌∷◌, ◌++◌, length, refl, sym, ap₂, subst, ◌∙◌}
 use Rattle.std.specs.List.{flat_map, list_all, AllZip, AllByRecursion}
+pub use Rattle.std.proofs.Math.Bool.{and-true as and_true, and-false as and_false}
 use Rattle.std.proofs.lemmas.List.{append-nil}
 use Rattle.std.proofs.lemmas.List.Folds.{list_all-append}
 use Rattle.std.proofs.lemmas.Grind.{flat_map-append}
 use Rattle.link_base.specs.declared.wire.buffer.NlaBuffer.{NlaBuffer}
-use Rattle.link_base.specs.declared.wire.fault.Cause.{Cause}
-use Rattle.link_base.specs.declared.wire.fault.DecodeFault.{DecodeFault}
-use Rattle.link_base.specs.declared.wire.fault.DecodeFault.TheVariants as faults
-use Rattle.link_base.specs.Frame.{frame_fault}
-use Rattle.link_base.specs.Buffer.{SplitsFirst, kind_field_of, payload_of}
-use Rattle.link_base.specs.Table.{Table, Gives}
-use Rattle.link_base.specs.Viewed.{FaultsFirst}
+use Rattle.link_base.specs.Buffer.{SplitsFirst}
 use Rattle.link_messages.specs.Walk.{Item, Walks}
-use Rattle.link_messages.proofs.Walking.{walks_more, end_splits}
-use Rattle.link_messages.specs.Shown.{EachShown, ShowsEach, Added}
+use Rattle.link_messages.proofs.Walking.{walks_more}
+use Rattle.link_messages.specs.Shown.{EachShown}
 
 -- ---- several items
 
@@ -23,14 +18,6 @@ zip_push R [] [] x y h here = (here, tt)
 zip_push R [] (b ∷ ys) x y h here = absurd h
 zip_push R (a ∷ xs) [] x y h here = absurd h
 zip_push R (a ∷ xs) (b ∷ ys) x y h here = (h.0, zip_push R xs ys x y h.1 here)
-
-pub and_true : (b : Bool) → (b && true) ≡ b
-and_true true = refl
-and_true false = refl
-
-pub and_false : (b : Bool) → (b && false) ≡ false
-and_false true = refl
-and_false false = refl
 
 pub each_none : {X Y : Type 0} (shows : X → List Y → Bool → Type 0) → EachShown shows [] [] true
 each_none shows = record { answers = []; each = tt; joined = refl; all = refl }
@@ -96,51 +83,3 @@ LeadTo list rest items = Walks (length list) list items rest
 
 pub lead_on : (list rest next : List ℕ) (b : NlaBuffer) → SplitsFirst rest b next → (items : List Item) → LeadTo list rest items → LeadTo list next (items ++ (length list - length rest, b) ∷ [])
 lead_on list rest next b split items w = walks_more (length list) list items rest b next w split
-
-module _ {W Y : Type 0} (Adds : W → W → List Y → Type 0) (shows : Item → List Y → Bool → Type 0) (ending : Option (ℕ × Cause) → List Y) (list : List ℕ) where
-  -- the attributes before `rest` were shown; or all, and the error of a header
-  pub data ListTo (rest : List ℕ) (old new : W) (whole : Bool) : Type 0 where
-    Going : ShownTo Adds shows (LeadTo list rest) old new whole → ListTo rest old new whole
-    Broken : rest ≡ [] → Added Adds (ShowsEach shows ending list) old new whole → ListTo rest old new whole
-
-pub list_none : {W Y : Type 0} {Adds : W → W → List Y → Type 0} {shows : Item → List Y → Bool → Type 0} {ending : Option (ℕ × Cause) → List Y} (list : List ℕ) (w : W) → Adds w w [] → ListTo Adds shows ending list list w w true
-list_none {shows = shows} list w a = Going (shown_none shows (LeadTo list list) w refl a)
-
-module _ {W Y : Type 0} {Adds : W → W → List Y → Type 0} {shows : Item → List Y → Bool → Type 0} {ending : Option (ℕ × Cause) → List Y} {list : List ℕ}
-    (more : (old mid new : W) (s t : List Y) → Adds old mid s → Adds mid new t → Adds old new (s ++ t)) where
-  -- an attribute more
-  pub list_more : (rest next : List ℕ) (old mid new : W) (whole well : Bool) (b : NlaBuffer) (out : List Y) → ListTo Adds shows ending list rest old mid whole → SplitsFirst rest b next
-      → shows (length list - length rest, b) out well → Adds mid new out → ListTo Adds shows ending list next old new (whole && well)
-  list_more rest next old mid new whole well b out (Broken e w) split shown written = absurd (end_splits 0 rest None b next e split)
-  list_more rest next old mid new whole well b out (Going h) split shown written =
-      Going (shown_more (LeadTo list next) (length list - length rest, b) out old mid new whole well (more old mid new) (lead_on list rest next b split) h shown written)
-
-  -- the error of a header ends the list
-  pub list_broken : (rest : List ℕ) (old mid new : W) (whole : Bool) (c : Cause) → ListTo Adds shows ending list rest old mid whole → rest ≢ [] → frame_fault rest ≡ Some c
-      → Adds mid new (ending (Some (length list - length rest, c))) → Added Adds (ShowsEach shows ending list) old new false
-  list_broken rest old mid new whole c (Broken e w) some bad written = absurd (some e)
-  list_broken rest old mid new whole c (Going h) some bad written =
-      let fault : Option (ℕ × Cause) = Some (length list - length rest, c) in (
-        h.out ++ ending fault,
-        record { items = h.items; fault = fault; walk = record { rest = rest; walks = h.leads; end = (some, refl, bad) }; front = h.out; well = whole; each = h.each; joined = refl; all = sym (and_false whole) },
-        more old mid new h.out (ending fault) h.written written,
-      )
-
-  -- an error more: of an attribute, or of a header
-  pub list_fault : (table : Table) (line : ℕ → DecodeFault → List Y) → ((x : Item) (fault : DecodeFault) → Gives table (kind_field_of x.1) (payload_of x.1) (Err fault) → shows x (line x.0 fault) false)
-      → ((at : ℕ) (c : Cause) → line at (faults.Frame c) ≡ ending (Some (at, c))) → (rest next : List ℕ) (old mid new : W) (whole : Bool) (at : ℕ) (fault : DecodeFault) → ListTo Adds shows ending list rest old mid whole
-      → rest ≢ [] → at ≡ length list - length rest → FaultsFirst table rest fault next → Adds mid new (line at fault) → ListTo Adds shows ending list next old new false
-  list_fault table line fails header rest next old mid new whole at fault h some place (inl (b, split, gives)) written =
-      subst (ListTo Adds shows ending list next old new) (and_false whole)
-      (list_more rest next old mid new whole false b (line (length list - length rest) fault) h split (fails (length list - length rest, b) fault gives) (subst (λ i. Adds mid new (line i fault)) place written))
-  list_fault table line fails header rest next old mid new whole at fault h some place (inr (c, bad, is, empty)) written =
-      let told = subst (λ i. Adds mid new (line i (faults.Frame c))) place (subst (λ f. Adds mid new (line at f)) is written) in
-      Broken empty (list_broken rest old mid new whole c h some bad (subst (Adds mid new) (header (length list - length rest) c) told))
-
--- all is shown
-pub list_done : {W Y : Type 0} {Adds : W → W → List Y → Type 0} {shows : Item → List Y → Bool → Type 0} {ending : Option (ℕ × Cause) → List Y} {list : List ℕ} → ending None ≡ [] → (rest : List ℕ) (old new : W) (whole : Bool)
-    → ListTo Adds shows ending list rest old new whole → rest ≡ [] → Added Adds (ShowsEach shows ending list) old new whole
-list_done none rest old new whole (Broken e w) empty = w
-list_done none rest old new whole (Going h) empty =
-    let joined = sym (append-nil h.out) ∙ ap (λ t. h.out ++ t) (sym none) in
-    (h.out, record { items = h.items; fault = None; walk = record { rest = rest; walks = h.leads; end = empty }; front = h.out; well = whole; each = h.each; joined = joined; all = sym (and_true whole) }, h.written)

@@ -67,19 +67,9 @@ last_or-push : {A : Type 0} (o : Option A) (xs : List A) (x : A) → last_or o (
 last_or-push o [] x = refl
 last_or-push o (y ∷ xs) x = last_or-push (Some y) xs x
 
-last_when : {A : Type 0} (b : Bool) (xs : List A) (x : A) → last_or None (xs ++ cond b (x ∷ []) []) ≡ cond b (Some x) (last_or None xs)
-last_when true xs x = last_or-push None xs x
-last_when false xs x = ap (last_or None) (append-nil xs)
-
--- one attribute more
-last_item-push : (kind : ℕ) (items : List Item) (x : Item) → last_item kind (items ++ x ∷ []) ≡ cond (nat_eq (kind_of (kind_field_of x.1)) kind) (Some x) (last_item kind items)
-last_item-push kind items x =
-    let is_of : Item → Bool = λ y. nat_eq (kind_of (kind_field_of y.1)) kind in
-    ap (last_or None) (filter-append is_of items (x ∷ [])) ∙ last_when (is_of x) (filter is_of items) x
-
-map_when : {A B : Type 0} (f : A → B) (b : Bool) (x : A) (o : Option A) → option_map f (cond b (Some x) o) ≡ cond b (Some (f x)) (option_map f o)
-map_when f true x o = refl
-map_when f false x o = refl
+last_view-push : {A B : Type 0} (f : A → B) (b : Bool) (xs : List A) (x : A) → option_map f (last_or None (xs ++ cond b (x ∷ []) [])) ≡ cond b (Some (f x)) (option_map f (last_or None xs))
+last_view-push f true xs x = ap (option_map f) (last_or-push None xs x)
+last_view-push f false xs x = ap (λ l. option_map f (last_or None l)) (append-nil xs)
 
 pub map_twice : {A B C : Type 0} (f : A → B) (g : B → C) (o : Option A) → option_map (λ x. g (f x)) o ≡ option_map g (option_map f o)
 map_twice f g None = refl
@@ -94,26 +84,22 @@ last-view f p o (x ∷ xs) =
       | false ↦ last-view f p o xs
     ]
 
-placed_seen : ℕ → Seen → Stretch
-placed_seen base x = (base + x.0 + 4, x.2)
-
-latest_of : ℕ → ℕ → List Seen → Option Stretch
-latest_of base kind xs = option_map (placed_seen base) (last_or None (filter (λ x. nat_eq (kind_of x.1) kind) xs))
-
-latest-seen : (base kind : ℕ) (items : List Item) → latest base kind items ≡ latest_of base kind (map seen_of items)
-unfolding latest_of placed_seen
-latest-seen base kind items =
-    map_twice seen_of (placed_seen base) (last_item kind items) ∙ ap (option_map (placed_seen base)) (last-view seen_of (λ x. nat_eq (kind_of x.1) kind) None items)
-
 -- it depends only on what is seen of attributes
 pub latest_same : (base kind : ℕ) (xs ys : List Item) → map seen_of xs ≡ map seen_of ys → latest base kind xs ≡ latest base kind ys
-latest_same base kind xs ys e = latest-seen base kind xs ∙ ap (latest_of base kind) e ∙ sym (latest-seen base kind ys)
+latest_same base kind xs ys e =
+    let placed : Seen → Stretch = λ x. (base + x.0 + 4, x.2) in
+    let found : List Seen → Option Stretch = λ xs. option_map placed (last_or None (filter (λ x. nat_eq (kind_of x.1) kind) xs)) in
+    let seen : (items : List Item) → latest base kind items ≡ found (map seen_of items) =
+    λ items. map_twice seen_of placed (last_item kind items) ∙ ap (option_map placed) (last-view seen_of (λ x. nat_eq (kind_of x.1) kind) None items) in
+    seen xs ∙ ap found e ∙ sym (seen ys)
 
+-- one attribute more
 pub latest_more : (base kind i : ℕ) (b : NlaBuffer) (found more : Option Stretch) (items : List Item) → more ≡ cond (nat_eq (kind_of (kind_field_of b)) kind) (Some (base + i + 4, payload_of b)) found
     → found ≡ latest base kind items → more ≡ latest base kind (items ++ (i, b) ∷ [])
 latest_more base kind i b found more items e h =
-    let is_of = nat_eq (kind_of (kind_field_of b)) kind in
-    e ∙ ap (cond is_of (Some (payload_at base (i, b)))) h ∙ sym (map_when (payload_at base) is_of (i, b) (last_item kind items)) ∙ ap (option_map (payload_at base)) (sym (last_item-push kind items (i, b)))
+    let is_of : Item → Bool = λ y. nat_eq (kind_of (kind_field_of y.1)) kind in
+    let last = last_view-push (payload_at base) (is_of (i, b)) (filter is_of items) (i, b) in
+    e ∙ ap (cond (is_of (i, b)) (Some (payload_at base (i, b)))) h ∙ sym last ∙ ap (λ l. option_map (payload_at base) (last_or None l)) (sym (filter-append is_of items ((i, b) ∷ [])))
 
 -- ---- a loop over the attributes
 
@@ -154,13 +140,17 @@ at_end n rest e = nil_from_length rest (eqb-true (length rest) 0 e)
 pub at_fault : (n : ℕ) (rest : List ℕ) (cause : Cause) → (length rest == 0) ≡ false → frame_fault rest ≡ Some cause → IsEnd n rest (Some (n - length rest, cause))
 at_fault n rest cause e fault = (λ none. eqb-false (length rest) 0 e (ap length none), refl, fault)
 
-pub reached_walk : {A : Type 0} (of : List Item → A) (list rest : List ℕ) (value : A) (fault : Option (ℕ × Cause)) → Reached of list value rest → IsEnd (length list) rest fault
-    → (items : List Item) × (stop : Option (ℕ × Cause)) × Walk list items stop
-reached_walk of list rest value fault r end = (r.items, fault, record { rest = rest; walks = r.walks; end = end })
+-- a list up to bytes that are no attribute
+ended : (n : ℕ) (rest : List ℕ) (c : Cause) → frame_fault rest ≡ Some c → (fault : Option (ℕ × Cause)) × IsEnd n rest fault
+ended n [] c e = (None, refl)
+ended n (b ∷ rest) c e = (Some (n - length (b ∷ rest), c), ((λ h. cc), refl, e))
+
+pub walk_to : (list rest : List ℕ) (items : List Item) (c : Cause) → Walks (length list) list items rest → frame_fault rest ≡ Some c → (fault : Option (ℕ × Cause)) × Walk list items fault
+walk_to list rest items c w e = let end = ended (length list) rest c e in (end.0, record { rest = rest; walks = w; end = end.1 })
 
 -- what holds of one walk holds of every walk, if it depends only on what is seen of attributes
-pub reached_all : {A : Type 0} (of : List Item → A) (list rest : List ℕ) (value : A) (fault : Option (ℕ × Cause)) → ((xs ys : List Item) → map seen_of xs ≡ map seen_of ys → of xs ≡ of ys) → Reached of list value rest
-    → IsEnd (length list) rest fault → OfWalk list (λ items stop. (value ≡ of items) × (fault ≡ stop))
-reached_all of list rest value fault seen r end = λ items stop walk.
-    let same = walk_unique list r.items items fault stop (record { rest = rest; walks = r.walks; end = end }) walk in
-    (r.is ∙ seen r.items items same.0, same.1)
+pub reached_all : {A : Type 0} (of : List Item → A) (list rest : List ℕ) (value : A) (c : Cause) → ((xs ys : List Item) → map seen_of xs ≡ map seen_of ys → of xs ≡ of ys) → Reached of list value rest
+    → frame_fault rest ≡ Some c → ((items : List Item) × (fault : Option (ℕ × Cause)) × Walk list items fault) × OfWalk list (λ items fault. value ≡ of items)
+reached_all of list rest value c seen r bad =
+    let (fault, walk) = walk_to list rest r.items c r.walks bad in
+    ((r.items, fault, walk), λ items stop other. r.is ∙ seen r.items items (walk_unique list r.items items fault stop walk other).0)

@@ -6,11 +6,10 @@ use Rattle.link_messages.specs.declared.header.LinkHeader.{LinkHeader}
 use Rattle.link_messages.specs.declared.message.MessageError.{MessageError}
 use Rattle.link_messages.specs.declared.message.MessageError.TheVariants as errors
 use Rattle.link_messages.specs.Message.{Packet}
-use Rattle.link_messages.specs.Link.{IsLinkType}
 
--- one of these, or RTM_GETLINK
+-- RTM_NEWLINK, RTM_DELLINK, RTM_SETLINK, RTM_GETLINK
 abbrev pub IsAnyLinkType : ℕ → Type 0
-IsAnyLinkType kind = IsLinkType kind ⊎ (kind ≡ 18)
+IsAnyLinkType kind = ((kind ≡ 16) ⊎ ((kind ≡ 17) ⊎ (kind ≡ 19))) ⊎ (kind ≡ 18)
 
 -- the header with which these bytes start: `ifi_family`, and a byte that is not used; `ifi_type`; `ifi_index`; `ifi_flags`; and
 -- `ifi_change`

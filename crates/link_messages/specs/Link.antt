@@ -1,5 +1,5 @@
 -- Messages about links, and lists that a Family parses (`include/uapi/linux/if_link.h`).
-use Rattle.std.specs.Prelude.{◌≡◌, ◌⊎◌, ℕ, ◌+◌, drop}
+use Rattle.std.specs.Prelude.{ℕ, ◌+◌, drop}
 use Rattle.netlink_packet_route.specs.declared.family.Family.{Family}
 use Rattle.link_messages.specs.declared.buffer_parts.Part.{Part}
 use Rattle.link_messages.specs.Message.{Packet}
@@ -8,10 +8,6 @@ use Rattle.link_messages.specs.Finding.{Stretch, stretch_of}
 -- a list, with the Family that parses it
 abbrev pub part_of : Part → Family × Stretch
 part_of p = (p.family, stretch_of p.payload)
-
--- RTM_NEWLINK, RTM_DELLINK, RTM_SETLINK
-abbrev pub IsLinkType : ℕ → Type 0
-IsLinkType kind = (kind ≡ 16) ⊎ ((kind ≡ 17) ⊎ (kind ≡ 19))
 
 -- the attributes of a message at offset `at`: what follows `struct nlmsghdr` and `struct ifinfomsg`
 abbrev pub attributes_of : ℕ → Packet → Stretch

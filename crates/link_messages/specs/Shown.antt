@@ -96,10 +96,6 @@ holder_at family k set at b content = record {
   list = list_in content (at + 4, payload_of b);
 }
 
--- the label is one of the set, or of its nested lists
-abbrev pub HasLabel : Family → Option Label → Type 0
-HasLabel family label = (k : Option ℕ) × (kind : ℕ) × (label ≡ label_at (rows_in family k) kind)
-
 -- ---- an output
 
 -- a kind of output, of pieces such as bytes of lines: what it has of an attribute. `level` is how many lists the attribute is
@@ -182,12 +178,11 @@ module _ {Y : Type 0} (d : Display Y) where
   abbrev pub shows_none : Shower Y
   shows_none context level family list out well = ⊥
 
-  -- a list of a set, and in it the lists that its attributes hold, through n levels
-  abbrev pub Shows : ℕ → Shower Y
-  Shows zero = ShowsItems zero shows_none
-  Shows (suc n) = ShowsItems (suc n) (Shows n)
-
   -- a list that is opened where n levels may be
   abbrev pub shows_in : ℕ → Shower Y
   shows_in zero = shows_none
-  shows_in (suc n) = Shows n
+  shows_in (suc n) = ShowsItems n (shows_in n)
+
+  -- a list of a set, and in it the lists that its attributes hold, through n levels
+  abbrev pub Shows : ℕ → Shower Y
+  Shows n = shows_in (suc n)

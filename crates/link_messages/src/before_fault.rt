@@ -21,15 +21,10 @@ pub fn last_before_fault<'a>(list: Payload<'a>, kind: u16) -> Option<Payload<'a>
 {
     let mut found = None;
     let mut rest = list.bytes;
-    while !rest.is_empty() {
+    while let Ok((attribute, after)) = NlaBuffer::split_first(rest) {
         let at = list.at + (list.bytes.len() - rest.len());
-        match NlaBuffer::split_first(rest) {
-            Ok((attribute, after)) => {
-                found = later(found, &attribute, at, kind);
-                rest = after;
-            }
-            Err(_) => return found,
-        }
+        found = later(found, &attribute, at, kind);
+        rest = after;
     }
     found
 }

@@ -1,10 +1,9 @@
 //! The header of a message about a link.
 
-ghost use Rattle.std.specs.Prelude.{◌≡◌, ◌≤◌, ◌↔◌, length, take, drop, IsTrue, MatchResult};
-ghost use Rattle.netlink_packet_route.specs.Class.{integer};
+ghost use Rattle.std.specs.Prelude.{◌≡◌, ◌≤◌, ◌↔◌, length, drop, IsTrue, MatchResult};
 ghost use Rattle.link_messages.specs.Message.{packet_of};
 ghost use Rattle.link_messages.specs.Finding.{stretch_of};
-ghost use Rattle.link_messages.specs.Link.{IsLinkType, attributes_of};
+ghost use Rattle.link_messages.specs.Link.{attributes_of};
 ghost use Rattle.link_messages.specs.Header.{IsAnyLinkType, header_in, HasLinkHeader, HasNoLinkHeader};
 
 use crate::buffer_parts::{Message, Payload};
@@ -69,14 +68,7 @@ pub fn peer_parts(payload: &[u8]) -> (LinkHeader, &[u8])
 fn is_any_link_type(kind: u16) -> bool
     ensures { IsTrue result ↔ IsAnyLinkType kind }
 {
-    is_link_type(kind) || kind == RTM_GETLINK
-}
-
-/// Checks whether messages of type `kind` are about links, and no requests for links.
-fn is_link_type(kind: u16) -> bool
-    ensures { IsTrue result ↔ IsLinkType kind }
-{
-    kind == RTM_NEWLINK || kind == RTM_DELLINK || kind == RTM_SETLINK
+    kind == RTM_NEWLINK || kind == RTM_DELLINK || kind == RTM_SETLINK || kind == RTM_GETLINK
 }
 
 /// Parses the `struct ifinfomsg` with which `body` starts.
@@ -87,16 +79,8 @@ fn header_of(body: &[u8]) -> LinkHeader
     LinkHeader {
         family: body[0],
         kind: u16_at(body, 2),
-        index: index_of(body),
+        index: i32::from_le_bytes([body[4], body[5], body[6], body[7]]),
         flags: u32_at(body, 8),
         change: u32_at(body, 12),
     }
-}
-
-/// Returns `ifi_index`. `body` starts with a `struct ifinfomsg`.
-fn index_of(body: &[u8]) -> i32
-    requires { 16 ≤ length body.now }
-    ensures { result ≡ integer (take 4 (drop 4 body.now)) }
-{
-    i32::from_le_bytes([body[4], body[5], body[6], body[7]])
 }

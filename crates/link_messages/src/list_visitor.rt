@@ -2,7 +2,7 @@
 
 ghost use Rattle.std.specs.Prelude.{◌≡◌, ◌<◌, ◌++◌, ℕ, [], List, IfOk, OnOk};
 ghost use Rattle.link_messages.specs.Finding.{Stretch};
-ghost use Rattle.link_messages.specs.Shown.{Display, Holder, holder_of, HasLabel, IsKnown, rows_in, Added, Ends};
+ghost use Rattle.link_messages.specs.Shown.{Display, Holder, holder_of, IsKnown, rows_in, Added, Ends};
 ghost use Rattle.link_messages.specs.Within.{IsWithin};
 
 use crate::buffer_parts::Payload;
@@ -84,7 +84,6 @@ pub trait ListVisitor<W> {
     /// Writes what precedes the attributes of a list that an attribute holds.
     fn begin(&self, writer: &mut W, level: u8, held: &HeldList<'_>) -> Result<(), Self::Error>
         requires level { level < 64 }
-        requires label { HasLabel held.now.family (holder_of held.now).label }
         requires reached { reaches self.now (holder_of held.now).list }
         ensures { OnOk result (begins self.now level (holder_of held.now) writer.old writer.new) };
 

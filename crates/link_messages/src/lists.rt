@@ -44,12 +44,10 @@ pub fn read_lists<'a>(alloc: Global, message: &Message<'a>) -> Result<Vec<Part<'
         (λ lists. ListsMessage message.now.at (packet_of message.now) (map part_of lists.items))
         (ListsFail message.now.at (packet_of message.now)) }
 {
-    match link_header(message) {
-        Ok((header, list)) => match lists_below(alloc, header.family, Family::Link, list) {
-            Ok(lists) => Ok(lists),
-            Err(error) => Err(ListsError::Memory(error)),
-        },
-        Err(error) => Err(ListsError::Message(error)),
+    let (header, list) = link_header(message).map_err(ListsError::Message)?;
+    match lists_below(alloc, header.family, Family::Link, list) {
+        Ok(lists) => Ok(lists),
+        Err(error) => Err(ListsError::Memory(error)),
     }
 }
 

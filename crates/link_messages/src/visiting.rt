@@ -1,12 +1,12 @@
 //! A walk through a list, and through the lists that its attributes hold.
 
-ghost use Rattle.std.specs.Prelude.{◌≡◌, ◌+◌, ◌*◌, ◌<◌, ◌≤◌, ◌^◌, length, Some, IsTrue, IfOk};
+ghost use Rattle.std.specs.Prelude.{◌≡◌, ◌+◌, ◌*◌, ◌<◌, ◌^◌, length, Some, IfOk};
 ghost use Rattle.link_base.specs.Buffer.{payload_of};
 ghost use Rattle.link_base.specs.Labels.{label_in};
 ghost use Rattle.link_base.specs.Viewed.{set_in, buffer_in, kind_in, set_of, bytes_in};
 ghost use Rattle.netlink_packet_route.specs.Views.{family_in};
 ghost use Rattle.link_messages.specs.Finding.{stretch_of};
-ghost use Rattle.link_messages.specs.Held.{is_headed, header_before, list_in, context_in};
+ghost use Rattle.link_messages.specs.Held.{header_before, list_in, context_in};
 ghost use Rattle.link_messages.specs.Shown.{Added, IsKnown, holder_of, rows_in, Shows, ShowsDecoded, ShowsInners, ShowsSingle, shows_unless, shows_in};
 
 use crate::buffer_parts::Payload;
@@ -48,18 +48,16 @@ pub fn visit_list<W, V: ListVisitor<W>>(
     let mut items = ViewAll::new(list.bytes, FamilySet { family });
     'attributes: loop {
         let at = list.at + items.offset();
-        let Some(item) = items.next() else {
-            return Ok(whole);
-        };
-        match item {
-            Ok(value) => {
+        match items.next() {
+            Some(Ok(value)) => {
                 let well = visit_value(visitor, writer, depth, context, level, &value, at)?;
                 whole = whole & well;
             }
-            Err(error) => {
+            Some(Err(error)) => {
                 visitor.error(writer, level, family, at, error.fault)?;
                 whole = false;
             }
+            None => return Ok(whole),
         }
     }
 }
@@ -228,25 +226,16 @@ fn split_held<'a>(content: Content<'_>, payload: Payload<'a>) -> (Option<LinkHea
     ensures header { result.0 ≡ header_before content.entry payload.entry.bytes.now }
     ensures list { stretch_of result.1 ≡ list_in content.entry (stretch_of payload.entry) }
 {
-    if !is_headed(content, payload.bytes) {
-        return (None, payload);
-    }
-    let (header, bytes) = peer_parts(payload.bytes);
-    let at = payload.at + PEER_HEADER;
-    (Some(header), Payload { at, bytes })
-}
-
-/// Checks whether a payload has a header before its list: that of a peer.
-fn is_headed(content: Content<'_>, payload: &[u8]) -> bool
-    ensures is { result ≡ is_headed content.entry payload.now }
-    ensures long { IsTrue result → 16 ≤ length payload.now }
-{
     match content {
         Content::Bytes {
             look: Look::Peer,
             ..
-        } => payload.len() >= PEER_HEADER,
-        _ => false,
+        } if payload.bytes.len() >= PEER_HEADER => {
+            let (header, bytes) = peer_parts(payload.bytes);
+            let at = payload.at + PEER_HEADER;
+            (Some(header), Payload { at, bytes })
+        }
+        _ => (None, payload),
     }
 }
 

@@ -1,5 +1,5 @@
 -- The addresses of a list: one attribute more, and the end.
-use Rattle.std.proofs.Common.{◌≡◌, ◌≢◌, ℕ, ◌-◌, ◌==◌, Bool, true, false, cond, List, [], ◌∷◌, ◌++◌, length, Option, Some, None, Result, Ok, Err, OnOk, refl, sym, ap, subst, ◌∙◌, append_assoc, codes}
+use Rattle.std.proofs.Common.{◌≡◌, ◌≢◌, ℕ, ◌-◌, ◌==◌, Bool, true, false, cond, List, [], ◌∷◌, ◌++◌, length, Some, Result, Ok, Err, OnOk, refl, sym, ap, subst, ◌∙◌, append_assoc, codes}
 use Rattle.link_show.specs.Sink.{Output, Gains}
 use Rattle.link_show.specs.Gained.{gains_more}
 use Rattle.std.proofs.lemmas.List.{append-nil}
@@ -8,10 +8,11 @@ use Rattle.link_base.specs.declared.wire.buffer.NlaBuffer.{NlaBuffer}
 use Rattle.link_base.specs.declared.wire.fault.Cause.{Cause}
 use Rattle.link_base.specs.Frame.{frame_fault}
 use Rattle.link_base.specs.Buffer.{payload_of, SplitsFirst}
-use Rattle.link_messages.specs.Walk.{Item, Walks, IsEnd, Walk}
+use Rattle.link_messages.specs.Walk.{Item, Walks}
 use Rattle.link_messages.proofs.Walking.{walks_more}
+pub use Rattle.link_messages.proofs.Walking.{walk_to}
 use Rattle.link_show.specs.Text.{after, joined, list_text, empty_text}
-use Rattle.link_show.specs.List.{ip_text, address_in, addresses_in, address_after, separator_after, WritesAddresses}
+use Rattle.link_show.specs.List.{ip_text, address_in, addresses_in, address_after, separator_after, ShowsAddresses, WritesOut}
 
 -- what precedes the next text
 abbrev next_of : List ℕ → List ℕ → List (List ℕ) → List ℕ
@@ -71,14 +72,6 @@ addresses_more size list rest behind separator next old mid new b h split writte
 
 -- ---- the end
 
-end_of : (n : ℕ) (rest : List ℕ) (c : Cause) → frame_fault rest ≡ Some c → (fault : Option (ℕ × Cause)) × IsEnd n rest fault
-end_of n [] c e = (None, refl)
-end_of n (b ∷ rest) c e = (Some (n - length (b ∷ rest), c), ((λ h. cc), refl, e))
-
--- a list up to bytes that are no attribute
-pub walk_to : (list rest : List ℕ) (items : List Item) (c : Cause) → Walks (length list) list items rest → frame_fault rest ≡ Some c → (fault : Option (ℕ × Cause)) × Walk list items fault
-walk_to list rest items c w e = let end = end_of (length list) rest c e in (end.0, record { rest = rest; walks = w; end = end.1 })
-
 no_text : (texts : List (List ℕ)) → [] ≡ next_of [] (codes " ") texts → texts ≡ []
 no_text [] e = refl
 no_text (t ∷ texts) e = absurd cc
@@ -89,14 +82,14 @@ some_text (t ∷ texts) separator e some = refl
 
 -- there are addresses
 pub addresses_all : (size : ℕ) (list rest separator : List ℕ) (old new : Output) (c : Cause) → AddressesTo size list rest separator old new → frame_fault rest ≡ Some c → separator ≢ []
-    → WritesAddresses size list old new
+    → WritesOut (ShowsAddresses size list) old new
 addresses_all size list rest separator old new c h bad some =
     let end = walk_to list rest h.items c h.walks bad in
     (_, (h.items, (end.0, end.1, refl)), subst (Gains old new) (sym (some_text (addresses_in size h.items) separator h.next some)) h.written)
 
 -- there is none
 pub addresses_empty : {X E : Type 0} (r : Result X E) (size : ℕ) (list rest separator : List ℕ) (old mid new : Output) (c : Cause) → AddressesTo size list rest separator old mid → frame_fault rest ≡ Some c → separator ≡ []
-    → OnOk r (Gains mid new empty_text) → OnOk r (WritesAddresses size list old new)
+    → OnOk r (Gains mid new empty_text) → OnOk r (WritesOut (ShowsAddresses size list) old new)
 addresses_empty (Ok x) size list rest separator old mid new c h bad empty written =
     let end = walk_to list rest h.items c h.walks bad in
     let none = no_text (addresses_in size h.items) (sym empty ∙ h.next) in

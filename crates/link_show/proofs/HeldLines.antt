@@ -1,11 +1,9 @@
 -- The lines of lists whose attributes hold lists of other sets, from what was written for their parts.
-use Rattle.std.proofs.Common.{◌≡◌, ℕ, ◌+◌, ◌*◌, Bool, true, false, not, ◌&&◌, List, [], ◌++◌, length, replicate, Option, Some, None, Result, OnOk, refl, sym, ap, subst, ◌∙◌, eqb-true, append_assoc}
+use Rattle.std.proofs.Common.{◌≡◌, ℕ, ◌+◌, ◌*◌, Bool, true, false, ◌&&◌, List, [], ◌++◌, length, replicate, Option, Some, None, refl, sym, ap, subst, ◌∙◌, eqb-true, append_assoc}
 use Rattle.std.specs.Prelude.{IsTrue, ◌==◌}
 use Rattle.std.proofs.lemmas.Bool.{and_parts}
 use Rattle.std.proofs.lemmas.List.{replicate-append-replicate}
 use Rattle.link_base.specs.declared.wire.buffer.NlaBuffer.{NlaBuffer}
-use Rattle.link_base.specs.declared.views.content.Content.{Content}
-use Rattle.link_base.specs.Table.{Label}
 use Rattle.link_base.specs.Frame.{kind_of}
 use Rattle.link_base.specs.Buffer.{kind_field_of, payload_of}
 use Rattle.netlink_packet_route.specs.declared.family.Family.{Family}
@@ -19,7 +17,7 @@ use Rattle.link_show.specs.declared.line_options.LineOptions.{LineOptions}
 use Rattle.link_show.specs.Sink.{Output, Gains}
 use Rattle.link_show.specs.Gained.{gains_more, gains_nothing}
 use Rattle.link_show.specs.List.{indented, Writes, ShowsVerdict, Unasked}
-use Rattle.link_show.specs.Held.{is_state, WritesLeaf, title_text, indent_in, ShowsJudgement, ShowsAround, ShowsSet, ShowsChecked}
+use Rattle.link_show.specs.Held.{is_state, title_text, indent_in, ShowsJudgement, ShowsAround, ShowsSet, ShowsChecked}
 use Rattle.link_show.proofs.Listing.{and_true}
 
 -- an STP state has one byte
@@ -34,31 +32,12 @@ pub indent_more : (text : List ℕ) (spaces level : ℕ) → text ++ replicate (
 indent_more text spaces level =
     ap (λ z. text ++ z) (sym (replicate-append-replicate spaces (2 * level) 32)) ∙ sym (append_assoc text (replicate spaces 32) (replicate (2 * level) 32))
 
--- the line of an attribute that holds no list
-pub leaf_written : {X E : Type 0} (r : Result X E) (s t : Bool) (i j : List ℕ) (l m : Option Label) (b : NlaBuffer) (content : Content) (old new : Output) → s ≡ t → i ≡ j → l ≡ m → OnOk r (WritesLeaf s i l b content old new)
-    → OnOk r (WritesLeaf t j m b content old new)
-leaf_written r s t i j l m b content old new p q e h =
-    subst (λ x. OnOk r (WritesLeaf x j m b content old new)) p (subst (λ x. OnOk r (WritesLeaf s x m b content old new)) q (subst (λ x. OnOk r (WritesLeaf s i x b content old new)) e h))
-
 -- ---- whether a list is canonical
-
-pub is_unset : (b : Bool) → not b ≡ true → b ≡ false
-is_unset true h = sym h
-is_unset false h = refl
-
-pub is_set : (b : Bool) → not b ≡ false → b ≡ true
-is_set true h = refl
-is_set false h = sym h
 
 -- nobody asked
 pub unasked : (check : Bool) (indent : List ℕ) (set : Option Family) (list : Stretch) → check ≡ false → ShowsJudgement check indent set list [] true
 unasked check indent None list e = (refl, refl)
 unasked check indent (Some set) list e = Unasked e refl refl
-
--- somebody asked
-pub asked : (check : Bool) (indent : List ℕ) (set : Family) (list : Stretch) (out : List ℕ) (well : Bool) → check ≡ true → ShowsVerdict true indent list.0 (table_of set) list.1 out well
-    → ShowsJudgement check indent (Some set) list out well
-asked check indent set list out well e of = subst (λ k. ShowsVerdict k indent list.0 (table_of set) list.1 out well) (sym e) of
 
 -- ---- an attribute that holds a list
 
@@ -72,11 +51,11 @@ module _ (o : LineOptions) (indent : List ℕ) (level : ℕ) (h : Holder) (inner
 
   -- nothing does
   pub around_plain : (new : Output) → ShowsJudgement o.check (indent_in indent (level + 1)) h.set h.list [] true → Gains mid new inner → Writes (ShowsAround o indent level h inner whole) old new whole
-  around_plain new judged lines = subst (Writes (ShowsAround o indent level h inner whole) old new) (and_true whole) (around_judged new new [] true judged lines (gains_nothing new))
+  around_plain new judged lines = rw and_true at (around_judged new new [] true judged lines (gains_nothing new))
 
 -- a list that is checked
-pub judged : (o : LineOptions) (context : Context) (indent : List ℕ) (base : ℕ) (family : Family) (list : List ℕ) (old mid new : Output) (whole canonical : Bool)
-    → Writes (ShowsSet o levels context indent base family list) old mid whole → Writes (ShowsVerdict o.check indent base (table_of family) list) mid new canonical
+pub judged : (o : LineOptions) (context : Context) (spaces indent : List ℕ) (base : ℕ) (family : Family) (list : List ℕ) (old mid new : Output) (whole canonical : Bool) → spaces ≡ indent
+    → Writes (ShowsSet o levels context spaces base family list) old mid whole → Writes (ShowsVerdict o.check indent base (table_of family) list) mid new canonical
     → Writes (ShowsChecked o context indent base family list) old new (whole && canonical)
-judged o context indent base family list old mid new whole canonical (lines, shown, first) (verdict, of, second) =
-    (lines ++ verdict, (lines, whole, shown, verdict, canonical, of, refl, refl), gains_more old mid new lines verdict first second)
+judged o context spaces indent base family list old mid new whole canonical same (lines, shown, first) (verdict, of, second) =
+    (lines ++ verdict, (lines, whole, subst (λ i. ShowsSet o levels context i base family list lines whole) same shown, verdict, canonical, of, refl, refl), gains_more old mid new lines verdict first second)

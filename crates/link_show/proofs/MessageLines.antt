@@ -1,8 +1,7 @@
 -- The lines of messages, from what was written for their parts.
-use Rattle.std.proofs.Common.{◌≡◌, ◌≢◌, ℕ, ℤ, pos, negsuc, Bool, true, false, true≢false, arith, ◌&&◌, List, ◌++◌, drop, Option, None, Result, Ok, Err, IfOk, refl, sym, ap, subst, ◌∙◌, append_assoc, codes}
+use Rattle.std.proofs.Common.{◌≡◌, ◌≢◌, ℕ, ℤ, pos, negsuc, Bool, true, false, true≢false, arith, ◌&&◌, List, ◌++◌, drop, Option, None, Result, Ok, Err, IfOk, refl, sym, ap, ◌∙◌, append_assoc, codes}
 use Rattle.std.specs.Int.RustNames.{unsigned_abs}
 use Rattle.std.specs.Int.{is_negative}
-use Rattle.link_show.specs.declared.line_options.LineOptions.{LineOptions}
 use Rattle.link_show.specs.Sink.{Output, Gains}
 use Rattle.link_show.specs.Gained.{gains_more}
 use Rattle.std.proofs.lemmas.Bool.{ltb-true, cond-true, cond-false, eq-eqb, ne_eqb}
@@ -14,12 +13,17 @@ use Rattle.link_show.specs.Structs.{field}
 use Rattle.link_show.specs.Errno.{errno_names}
 use Rattle.link_show.specs.List.{Writes}
 use Rattle.link_show.specs.HeaderText.{unless_zero}
-use Rattle.link_show.specs.Message.{errno_name, result_line, error_number_line, message_line, ShowsBody, ShowsMessage, ShowsBuffer}
+use Rattle.link_show.specs.Message.{errno_name, result_line, error_number_line, ShowsBuffer}
 use Rattle.link_show.proofs.Listing.{and_true, Added, ShownTo, shown_more}
 
 pub if_ok : {X E : Type 0} (P Q : X → Type 0) (r : Result X E) → ((x : X) → P x → Q x) → IfOk r P → IfOk r Q
 if_ok P Q (Ok x) f h = f x h
 if_ok P Q (Err e) f h = h
+
+-- a text was written, and then, unless the call failed, what it is shown before
+pub writes_after : {E : Type 0} (r : Result Bool E) (P Q : List ℕ → Bool → Type 0) (old mid new : Output) (s : List ℕ) → Gains old mid s → ((out : List ℕ) (well : Bool) → P out well → Q (s ++ out) well)
+    → IfOk r (Writes P mid new) → IfOk r (Writes Q old new)
+writes_after r P Q old mid new s first shows = if_ok (Writes P mid new) (Writes Q old new) r (λ well (out, shown, second). (s ++ out, shows out well shown, gains_more old mid new s out first second))
 
 -- ---- texts
 
@@ -47,12 +51,6 @@ errno_positive (negsuc n) h = absurd (true≢false h)
 
 -- ---- the messages of a buffer
 
--- a message after its first line
-pub message_written : (o : LineOptions) (m : Message) (old mid new : Output) (well : Bool) → Gains old mid (message_line m) → Writes (ShowsBody o m) mid new well
-    → Writes (ShowsMessage o m) old new well
-message_written o m old mid new well first (body, is, second) =
-    (message_line m ++ body, record { body = body; is_body = is; joined = refl }, gains_more old mid new (message_line m) body first second)
-
 -- the outputs for the messages of a buffer before offset `at` were added
 abbrev pub MessagesTo : {W Y : Type 0} → (W → W → List Y → Type 0) → (Message → List Y → Bool → Type 0) → List ℕ → ℕ → W → W → Bool → Type 0
 MessagesTo Adds shows s at = ShownTo Adds shows (λ messages. Stand s 0 messages at)
@@ -74,4 +72,4 @@ module _ {W Y : Type 0} {Adds : W → W → List Y → Type 0} {shows : Message 
 
   -- likewise, if that is well
   pub messages_all : (ends : ℕ → List Y → Bool → Type 0) → Added Adds (ends at) mid new true → Added Adds (ShowsBuffer shows ends s) old new whole
-  messages_all ends last = subst (Added Adds (ShowsBuffer shows ends s) old new) (and_true whole) (messages_end ends true last)
+  messages_all ends last = rw and_true at (messages_end ends true last)

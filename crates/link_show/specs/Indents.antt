@@ -1,11 +1,6 @@
 -- The indents of lines.
-use Rattle.std.specs.Prelude.{ℕ, List, ◌++◌, codes, replicate}
-use Rattle.link_show.specs.declared.indent.Indent.{Indent, Text, Below'}
-
--- two columns further in
-abbrev pub deeper : List ℕ → List ℕ
-deeper indent = indent ++ codes "  "
+use Rattle.std.specs.Prelude.{ℕ, List, ◌++◌, replicate}
+use Rattle.link_show.specs.declared.indent.Indent.{Indent}
 
 abbrev pub indent_text : Indent → List ℕ
-indent_text (Text t n) = t.now ++ replicate n 32
-indent_text (Below' p outer) = deeper (indent_text outer)
+indent_text i = i.text.now ++ replicate i.spaces 32

@@ -83,10 +83,6 @@ address_after size p separator = if length p == size then separator ++ ip_text p
 abbrev pub separator_after : ℕ → List ℕ → List ℕ → List ℕ
 separator_after size p separator = if length p == size then codes " " else separator
 
--- they were written
-abbrev pub WritesAddresses : ℕ → List ℕ → Output → Output → Type 0
-WritesAddresses size list old new = (out : List ℕ) × ShowsAddresses size list out × Gains old new out
-
 -- ---- lists
 
 -- what is behind the name, if the content is a list of addresses
@@ -98,7 +94,11 @@ ShowsMore content more = more ≡ []
 abbrev pub ShowsFlat : List ℕ → Option Label → ℕ → Content → List ℕ → Type 0
 ShowsFlat indent label f content out = (more : List ℕ) × ShowsMore content more × (out ≡ indented indent (attribute_text label f content ++ more))
 
--- what a call writes, and what it returns with it
+-- what a call writes
+abbrev pub WritesOut : (List ℕ → Type 0) → Output → Output → Type 0
+WritesOut shows old new = (out : List ℕ) × shows out × Gains old new out
+
+-- likewise, and what it returns with it
 abbrev pub Writes : (List ℕ → Bool → Type 0) → Output → Output → Bool → Type 0
 Writes shows old new well = (out : List ℕ) × shows out well × Gains old new out
 
@@ -112,10 +112,3 @@ pub data ShowsVerdict (check : Bool) (indent : List ℕ) (base : ℕ) (table : T
   IsCanonical : check ≡ true → Canonical table list → out ≡ indented indent (codes "canonical") → well ≡ true → ShowsVerdict check indent base table list out well
   IsNot : check ≡ true → (at : ℕ) → FirstNotCanonical table list at → out ≡ not_canonical_line indent (base + at) → well ≡ false
       → ShowsVerdict check indent base table list out well
-
--- the line of an attribute that is no list was written; the addresses behind its name
-abbrev pub WritesFlat : List ℕ → Option Label → ℕ → Content → Output → Output → Type 0
-WritesFlat indent label f content old new = (out : List ℕ) × ShowsFlat indent label f content out × Gains old new out
-
-abbrev pub WritesMore : Content → Output → Output → Type 0
-WritesMore content old new = (more : List ℕ) × ShowsMore content more × Gains old new more

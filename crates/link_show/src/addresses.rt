@@ -2,7 +2,7 @@
 
 ghost use Rattle.std.specs.Prelude.{◌≡◌, IfOk, OnOk};
 ghost use Rattle.link_show.specs.Sink.{Gains};
-ghost use Rattle.link_show.specs.List.{ip_text, address_after, separator_after, WritesAddresses};
+ghost use Rattle.link_show.specs.List.{ip_text, address_after, separator_after, ShowsAddresses, WritesOut};
 
 use crate::ip::{write_ipv4, write_ipv6};
 use crate::octets::write_hex;
@@ -15,7 +15,7 @@ use link_base::NlaBuffer;
 ///
 /// That of the writer.
 pub fn write_addresses<W: Sink>(writer: &mut W, list: &[u8], size: usize) -> Result<(), W::Error>
-    ensures { OnOk result (WritesAddresses size list.now (W.output writer.old) (W.output writer.new)) }
+    ensures { OnOk result (WritesOut (ShowsAddresses size list.now) (W.output writer.old) (W.output writer.new)) }
 {
     let mut separator = b"".as_slice();
     let mut rest = list;

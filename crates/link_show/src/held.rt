@@ -74,11 +74,15 @@ struct LineVisitor<'a> {
 
 impl<'a> LineVisitor<'a> {
     /// Returns the indent of the lines of attributes that are in `level` lists.
+    #[tactic(auto, using(crate::proofs::HeldLines::indent_more))]
     fn indent(&self, level: u8) -> Indent<'a>
         requires { level < 64 }
         ensures { indent_text result ≡ indent_in (self.now.text.now ++ replicate self.now.spaces 32) level }
     {
-        Indent::Text(self.text, self.spaces + 2 * level)
+        Indent {
+            text: self.text,
+            spaces: self.spaces + 2 * level,
+        }
     }
 }
 

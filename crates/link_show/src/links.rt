@@ -10,6 +10,7 @@ ghost use Rattle.link_messages.specs.Finding.{stretch_of};
 ghost use Rattle.link_show.specs.Flags.{flags_text};
 ghost use Rattle.link_show.specs.List.{Writes};
 ghost use Rattle.link_show.specs.MessageNames.{device_flags};
+ghost use Rattle.link_show.specs.Pieces.{piece_text};
 ghost use Rattle.link_show.specs.HeaderText.{unless_zero, named_or, header_parts};
 ghost use Rattle.link_show.specs.Message.{ShowsLink, IsLinkName, link_line, name_part};
 
@@ -125,25 +126,24 @@ fn write_named_field<W: Sink>(
     if number == 0 {
         return Ok(());
     }
+    put_pieces(
+        writer,
+        &[
+            Piece::Text(" "),
+            Piece::Text(field),
+            Piece::Text(" "),
+            named_piece(names, number),
+        ],
+    )
+}
+
+/// Returns the name of a number, or the number.
+fn named_piece(names: &[Name], number: u64) -> Piece<'static>
+    ensures { piece_text result ≡ named_or [] (name_in (names_in names.now) number) number }
+{
     match name_of(names, number) {
-        Some(name) => put_pieces(
-            writer,
-            &[
-                Piece::Text(" "),
-                Piece::Text(field),
-                Piece::Text(" "),
-                Piece::Text(name),
-            ],
-        ),
-        None => put_pieces(
-            writer,
-            &[
-                Piece::Text(" "),
-                Piece::Text(field),
-                Piece::Text(" "),
-                Piece::Number(number),
-            ],
-        ),
+        Some(name) => Piece::Text(name),
+        None => Piece::Number(number),
     }
 }
 

@@ -6,7 +6,7 @@ ghost use Rattle.link_base.specs.Buffer.{kind_field_of};
 ghost use Rattle.link_show.specs.Indents.{indent_text};
 ghost use Rattle.link_show.specs.Fault.{fault_text};
 ghost use Rattle.link_base.specs.Labels.{label_in};
-ghost use Rattle.link_show.specs.List.{error_line, WritesFlat, WritesMore};
+ghost use Rattle.link_show.specs.List.{error_line, ShowsFlat, ShowsMore, WritesOut};
 
 use crate::addresses::write_addresses;
 use crate::attributes::write_in_one_line;
@@ -49,8 +49,8 @@ pub(crate) fn write_flat<W: Sink>(
     known: &Known<'_>,
     buffer: NlaBuffer<'_>,
 ) -> Result<(), W::Error>
-    ensures { OnOk result (WritesFlat (indent_text indent.entry) (label_in known.now.label) (kind_field_of buffer.entry)
-        known.now.content (W.output writer.old) (W.output writer.new)) }
+    ensures { OnOk result (WritesOut (ShowsFlat (indent_text indent.entry) (label_in known.now.label)
+        (kind_field_of buffer.entry) known.now.content) (W.output writer.old) (W.output writer.new)) }
 {
     write_indent(writer, indent)?;
     write_in_one_line(writer, known, buffer)?;
@@ -60,7 +60,7 @@ pub(crate) fn write_flat<W: Sink>(
 
 /// Writes the addresses of a list of addresses after a space.
 fn write_more<W: Sink>(writer: &mut W, content: Content<'_>) -> Result<(), W::Error>
-    ensures { OnOk result (WritesMore content.entry (W.output writer.old) (W.output writer.new)) }
+    ensures { OnOk result (WritesOut (ShowsMore content.entry) (W.output writer.old) (W.output writer.new)) }
 {
     match content {
         Content::Addresses { list, size } => {

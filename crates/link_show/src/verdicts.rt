@@ -26,7 +26,11 @@ pub fn write_verdict<W: Sink>(
     ensures { IfOk result (Writes (ShowsVerdict true indent.now list.entry.at (table_of family) list.entry.bytes.now)
         (W.output writer.old) (W.output writer.new)) }
 {
-    write_judgement(writer, family, Indent::Text(indent, 0), list)
+    let indent = Indent {
+        text: indent,
+        spaces: 0,
+    };
+    write_judgement(writer, family, indent, list)
 }
 
 /// Writes whether a list is canonical, and returns it.

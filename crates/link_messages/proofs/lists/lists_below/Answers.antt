@@ -1,11 +1,7 @@
-use Rattle.std.proofs.Common.{◌≡◌, ◌++◌, ◌∷◌, [], map, ap, subst, ◌∙◌, arith}
+use Rattle.std.proofs.Common.{◌≡◌, ◌++◌, ◌∷◌, [], map, ap, ◌∙◌, arith}
 use Rattle.std.proofs.lemmas.Grind.{common_steps}
-use Rattle.link_messages.specs.declared.buffer_parts.Part.{Part}
 use Rattle.link_messages.specs.Finding.{stretch_of}
-use Rattle.link_messages.specs.Held.{levels}
 use Rattle.link_messages.specs.Link.{part_of}
-use Rattle.link_messages.specs.Lists.{lists_only}
-use Rattle.link_messages.specs.Shown.{Shows}
 use Rattle.link_messages.specs.Within.{within_self}
 use Rattle.link_messages.proofs.lists.lists_below.Goals as goal
 
@@ -15,7 +11,5 @@ visit_list-requires-clause-reached c = within_self (stretch_of c.args.list)
 pub returns : goal.returns
 returns c =
     let (held, shown, added) = c.in_ok-visit_list.ensures in
-    let list = stretch_of c.args.list in
-    let part : Part = record { family = c.args.family; payload = c.args.list } in
-    let first : c.push.new.self.items ≡ part ∷ [] = grind (arith, common_steps) in
-    (held, c.in_ok-visit_list.field-0, subst (λ x. Shows lists_only levels x 0 c.args.family list held c.in_ok-visit_list.field-0) c.of_message-context.ensures shown, added ∙ ap (λ items. map part_of items ++ held) first)
+    let first : c.push.new.self.items ≡ record { family = c.args.family; payload = c.args.list } ∷ [] = grind (arith, common_steps) in
+    (held, c.in_ok-visit_list.field-0, rw c.of_message-context.ensures at shown, added ∙ ap (λ items. map part_of items ++ held) first)

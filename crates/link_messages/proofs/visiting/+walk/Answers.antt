@@ -1,24 +1,17 @@
-use Rattle.std.proofs.Common.{◌≡◌, ◌+◌, ◌-◌, ◌<◌, ◌^◌, true, false, [], Option, Some, None, length, refl, sym, ap, ap₂, subst, ◌∙◌, arith}
-use Rattle.std.specs.Prelude.{IfSome}
+use Rattle.std.proofs.Common.{◌≡◌, ◌+◌, ◌-◌, ◌<◌, ◌^◌, true, false, [], Some, None, length, refl, sym, ap, ap₂, subst, ◌∙◌, arith}
 use Rattle.std.proofs.lemmas.Result.{IfOk-weaker}
 use Rattle.link_base.specs.Buffer.{kind_field_of, payload_of}
 use Rattle.link_base.specs.Borrowed.{Borrows, HasValues, HasContent, elements_at}
-use Rattle.link_base.specs.declared.wire.buffer.NlaBuffer.{NlaBuffer}
-use Rattle.link_base.specs.declared.views.content.Content.{Content}
 use Rattle.link_base.specs.declared.views.content.Content.TheVariants as contents
-use Rattle.link_base.specs.Labels.{label_in}
-use Rattle.link_base.specs.Table.{Label, class_at}
-use Rattle.netlink_packet_route.specs.declared.family.Family.{Family}
-use Rattle.link_base.specs.Viewed.{all_set_of, left_of, buffer_in, set_in, set_of, bytes_in, kind_in, payload_in, NextOfAll, FaultsFirst}
+use Rattle.link_base.specs.Table.{class_at}
+use Rattle.link_base.specs.Viewed.{left_of, buffer_in, set_in, set_of, bytes_in, kind_in, payload_in}
 use Rattle.link_base.proofs.Elements.{elements_decode}
 use Rattle.netlink_packet_route.specs.Family.{table_of}
-use Rattle.netlink_packet_route.specs.Opening.{holding_at, IsOpened}
 use Rattle.netlink_packet_route.specs.Views.{family_in, elements_table}
 use Rattle.link_messages.specs.Finding.{Stretch, stretch_of}
-use Rattle.link_messages.specs.Held.{Answers, header_before, list_in}
-use Rattle.link_messages.specs.Shown.{Added, Holder, holder_of, IsKnown, label_for, holder_at, ShowsSingle, ShowsInner, ShowsDecoded, shows_unless, shows_in}
-use Rattle.link_messages.proofs.Listing.{LeadTo, list_none, shown_none}
-use Rattle.link_messages.proofs.Visited.{ItemsTo, none_of, opened_shown, nested_shown, single_shown, inner_more, decoded_more, fault_more, items_all, next_within, payload_within, within_room, held_within, unless_kept, list_payload}
+use Rattle.link_messages.specs.Shown.{holder_of, IsKnown, holder_at, ShowsInner, shows_in}
+use Rattle.link_messages.proofs.Listing.{LeadTo, shown_none}
+use Rattle.link_messages.proofs.Visited.{ItemsTo, Going, opened_shown, nested_shown, single_shown, inner_more, decoded_more, fault_more, items_all, next_within, payload_within, within_room, held_reached, list_payload}
 use Rattle.link_messages.specs.Within.{IsWithin}
 use Rattle.link_messages.proofs.Walking.{split_short}
 use Rattle.link_messages.proofs.visiting.+walk.Goals as goal
@@ -31,7 +24,7 @@ visit_list-attributes-init g t c =
     let list = stretch_of c.args.list in (
       ap family_in made.set,
       made.list.0,
-      subst (λ rest. ItemsTo v.adds (v.display c.args.visitor.now) c.args.depth c.args.context.now c.args.level c.args.family list rest w w true) (sym made.list.1) (list_none list.1 w (g.met.V.ListVisitor.none w)),
+      subst (λ rest. ItemsTo v.adds (v.display c.args.visitor.now) c.args.depth c.args.context.now c.args.level c.args.family list rest w w true) (sym made.list.1) (Going (shown_none _ (LeadTo list.1 list.1) w refl (g.met.V.ListVisitor.none w))),
     )
 
 pub visit_list-attributes-preserved : goal.visit_list-attributes-preserved
@@ -40,55 +33,50 @@ visit_list-attributes-preserved g t c =
     let before = c.attributes.invariant in
     let items = c.attributes.items in
     let next = c.next.new.self in
-    let e = c.in-Err.error in
+    let e = c.in-Some-Err.error in
     let list = stretch_of c.args.list in
-    let steps = subst (λ item. NextOfAll (table_of (family_in (all_set_of items))) items (Some item) next) c.in-Err.is c.in-Some.ensures.steps in
-    let faults = subst (λ f. FaultsFirst (table_of f) (left_of items) e.fault (left_of next)) before.0 steps.2 in
+    let steps = rw c.in-Some-Err.field-0-is at c.in-Some-Err.ensures.steps in
     let place : c.args.list.at + c.offset.result ≡ c.args.list.at + (length list.1 - length (left_of items)) = omega (arith, c.offset.ensures, ap length before.1) in (
       ap family_in steps.4 ∙ before.0,
       steps.3 ∙ before.1,
       fault_more v.adds (v.display c.args.visitor.now) c.args.depth c.args.context.now c.args.level c.args.family list g.met.V.ListVisitor.both (left_of items) (left_of next) c.args.writer.now c.attributes.writer
-          c.error.new.writer c.attributes.whole _ e.fault before.2 steps.0 place faults c.in_ok-error-in-Err.ensures,
+          c.error.new.writer c.attributes.whole _ e.fault before.2 steps.0 place (rw before.0 at steps.2) c.in_ok-error-in-Some-Err.ensures,
     )
 
-pub visit_list-attributes-preserved-in-Ok : goal.visit_list-attributes-preserved-in-Ok
-visit_list-attributes-preserved-in-Ok g t c =
+pub visit_list-attributes-preserved-in-Some-Ok : goal.visit_list-attributes-preserved-in-Some-Ok
+visit_list-attributes-preserved-in-Some-Ok g t c =
     let v = g.V.ListVisitor in
-    let d = v.display c.args.visitor.now in
     let before = c.attributes.invariant in
     let items = c.attributes.items in
     let next = c.next.new.self in
-    let x = c.in-Ok.value in
+    let x = c.in-Some-Ok.value in
     let list = stretch_of c.args.list in
-    let steps = subst (λ item. NextOfAll (table_of (family_in (all_set_of items))) items (Some item) next) c.in-Ok.is c.in-Some.ensures.steps in
+    let steps = rw c.in-Some-Ok.field-0-is at c.in-Some-Ok.ensures.steps in
     let place : c.args.list.at + c.offset.result ≡ c.args.list.at + (length list.1 - length (left_of items)) = omega (arith, c.offset.ensures, ap length before.1) in
-    let written =
-    subst (λ f. Added v.adds (shows_unless (d.omits c.args.context.now f (kind_in x)) (ShowsDecoded d c.args.depth (shows_in d c.args.depth) c.args.context.now c.args.level (c.args.list.at + c.offset.result) f (buffer_in x)))
-    c.attributes.writer c.visit_value.new.writer c.in_ok-well-in-Ok.well) (ap family_in steps.1 ∙ before.0) c.in_ok-well-in-Ok.ensures in (
+    let family : family_in (set_in x) ≡ c.args.family = ap family_in steps.1 ∙ before.0 in (
       ap family_in steps.3 ∙ before.0,
       steps.2 ∙ before.1,
-      decoded_more v.adds d c.args.depth c.args.context.now c.args.level c.args.family list g.met.V.ListVisitor.both (left_of items) (left_of next) c.args.writer.now c.attributes.writer
-          c.visit_value.new.writer c.attributes.whole c.in_ok-well-in-Ok.well (buffer_in x) _ before.2 steps.0 place written,
+      decoded_more v.adds (v.display c.args.visitor.now) c.args.depth c.args.context.now c.args.level c.args.family list g.met.V.ListVisitor.both (left_of items) (left_of next) c.args.writer.now c.attributes.writer
+          c.visit_value.new.writer c.attributes.whole c.in_ok-well-in-Some-Ok.well (buffer_in x) _ before.2 steps.0 place (rw family at c.in_ok-well-in-Some-Ok.ensures),
     )
 
-pub visit_list-returns-in_default : goal.visit_list-returns-in_default
-visit_list-returns-in_default g t c =
+pub visit_list-returns-in-None : goal.visit_list-returns-in-None
+visit_list-returns-in-None g t c =
     let v = g.V.ListVisitor in
-    items_all v.adds (v.display c.args.visitor.now) c.args.depth c.args.context.now c.args.level c.args.family (stretch_of c.args.list) (left_of c.attributes.items) c.args.writer.now c.attributes.writer c.attributes.whole
-    c.attributes.invariant.2 (none_of (λ r. NextOfAll (table_of (family_in (all_set_of c.attributes.items))) c.attributes.items r c.next.new.self) c.next.result c.next.ensures.steps c.in_default.not-Some).0
+    items_all v.adds (v.display c.args.visitor.now) c.args.depth c.args.context.now c.args.level c.args.family (stretch_of c.args.list) g.met.V.ListVisitor.both (left_of c.attributes.items) c.args.writer.now
+    c.attributes.writer c.attributes.whole (g.met.V.ListVisitor.none c.attributes.writer) c.attributes.invariant.2 c.in-None.ensures.steps.0
 
 pub visit_list-visit_value-requires : goal.visit_list-visit_value-requires
 visit_list-visit_value-requires g t c κs within =
     let v = g.V.ListVisitor in
     let before = c.attributes.invariant in
     let items = c.attributes.items in
-    let next = c.next.new.self in
     let list = stretch_of c.args.list in
-    let payload : Stretch = (c.args.list.at + c.offset.result + 4, payload_of (buffer_in c.in-Ok.value)) in
-    let steps = subst (λ item. NextOfAll (table_of (family_in (all_set_of items))) items (Some item) next) c.in-Ok.is c.in-Some.ensures.steps in
+    let payload : Stretch = (c.args.list.at + c.offset.result + 4, payload_of (buffer_in c.in-Some-Ok.value)) in
+    let steps = rw c.in-Some-Ok.field-0-is at c.in-Some-Ok.ensures.steps in
     let place : c.args.list.at + c.offset.result ≡ c.args.list.at + (length list.1 - length (left_of items)) = omega (arith, c.offset.ensures, ap length before.1) in
-    let inside = next_within v.adds (v.display c.args.visitor.now) c.args.depth c.args.context.now c.args.level c.args.family list (left_of items) (left_of next) c.args.writer.now c.attributes.writer c.attributes.whole
-    (buffer_in c.in-Ok.value) _ before.2 steps.0 place in
+    let inside = next_within v.adds (v.display c.args.visitor.now) c.args.depth c.args.context.now c.args.level c.args.family list (left_of items) (left_of c.next.new.self) c.args.writer.now c.attributes.writer
+    c.attributes.whole (buffer_in c.in-Some-Ok.value) _ before.2 steps.0 place in
     let room : payload.0 + length payload.1 < 2 ^ 64 = within_room list payload inside c.args.list.within in
     (omega arith, (within.0, (within.1.0, (within.1.1, (c.requires.levels, (room, g.met.V.ListVisitor.part c.args.visitor.now list payload c.requires.reached inside))))))
 
@@ -98,7 +86,7 @@ visit_value-returns-then-omits g t c =
     let x = c.args.value.now in
     let family = family_in (set_in x) in
     let out : d.omits c.args.context.now family (kind_in x) ≡ true = sym (c.omits.ensures ∙ ap₂ (d.omits c.args.context.now) (ap family_in c.set-family.ensures) c.kind-kind.ensures) ∙ c.if-omits.true in
-    ([], subst (λ b. shows_unless b (ShowsDecoded d c.args.depth (shows_in d c.args.depth) c.args.context.now c.args.level c.args.at family (buffer_in x)) [] true) (sym out) (refl, refl), g.met.V.ListVisitor.none c.args.writer.now)
+    ([], rw out (refl, refl), g.met.V.ListVisitor.none c.args.writer.now)
 
 pub visit_inners-elements-init : goal.visit_inners-elements-init
 visit_inners-elements-init g t c =
@@ -125,9 +113,7 @@ visit_inners-elements-preserved g t c =
     let known = c.known-known in
     let has : HasContent (elements_table (set_in x)) (buffer_in x) known.result.content = record { decodes = x.decodes; borrows = known.ensures.content; form = known.ensures.form } in
     let place : c.args.at + (length c.bytes-size.result.now - length c.bytes.result.now) ≡ c.args.at + (length list - length rest) = omega (arith, ap length c.bytes.ensures, ap length c.bytes-size.ensures) in
-    let written =
-    subst (λ s. Added v.adds (ShowsSingle d c.args.depth (shows_in d c.args.depth) c.of_elements-inner.result c.args.level (c.args.at + (length c.bytes-size.result.now - length c.bytes.result.now)) s.family (Some s.list) c.buffer.result known.result.content)
-    c.elements.writer c.visit_single.new.writer c.in_ok-well.well) c.set-set.ensures c.in_ok-well.ensures in (
+    let written = rw c.set-set.ensures at c.in_ok-well.ensures in (
       steps.2 ∙ before.0,
       omega (arith, before.1, (split_short rest (buffer_in x) after steps.0).1),
       inner_more v.adds d c.args.depth (shows_in d c.args.depth) c.of_elements-inner.result c.args.level c.args.at (set_of all).family (set_of all).list list g.met.V.ListVisitor.both rest after c.args.writer.now
@@ -196,17 +182,14 @@ visit_value-returns-in_ok-whole-in-List g t c =
     let kept : d.omits c.args.context.now family (kind_in x) ≡ false = sym (c.omits.ensures ∙ ap₂ (d.omits c.args.context.now) (ap family_in c.set-family.ensures) c.kind-kind.ensures) ∙ c.if-omits.false in
     let has : HasContent (table_of family) b content = record { decodes = x.decodes; borrows = known.ensures.content; form = known.ensures.form } in
     let h = holder_of c.held_list-held.result in
-    let of : Option Label → Family → NlaBuffer → Content → Holder = λ l f b content. record { label = l; family = f; set = None; header = header_before content (payload_of b); list = list_in content (c.args.at + 4, payload_of b) } in
-    let label = label_for (table_of family) b in
-    let is : h ≡ of label family b (contents.List c.in-List.list c.in-List.flagged) =
-    c.held_list-held.ensures ∙ ap (λ s. of (label_in known.result.label) (family_in s) c.buffer-buffer.result content) c.set-family.ensures ∙ ap (λ b. of (label_in known.result.label) family b content) c.buffer-buffer.ensures
-    ∙ ap (λ l. of l family b content) known.ensures.label ∙ ap (of label family b) c.in-List.is in
+    let is : h ≡ holder_at family None None c.args.at b (contents.List c.in-List.list c.in-List.flagged) =
+    rw (c.set-family.ensures, c.buffer-buffer.ensures, known.ensures.label, c.in-List.is) at c.held_list-held.ensures in
     IfOk-weaker c.end.result _ _
     (λ well closes.
     let (out, around, written) = closes c.args.writer.now c.begin.new.writer inner c.in_ok-begin-in-List.ensures added in
     let nested = nested_shown d c.args.depth (shows_in d c.args.depth) c.args.context.now c.args.level c.args.at family b c.in-List.list _ h _ _ _ inner c.in_ok-whole-in-List.whole out well
     (subst (HasContent (table_of family) b) c.in-List.is has) is (ap (λ s. s.family) set ∙ ap family_in c.set-family.ensures) (ap (λ s. s.list) set ∙ c.kind-kind.ensures) c.of_checked-elements.ensures.bytes shown around in
-    (out, unless_kept _ _ out well kept nested, written)) c.end.ensures
+    (out, rw kept nested, written)) c.end.ensures
 
 pub visit_value-returns-in_default : goal.visit_value-returns-in_default
 visit_value-returns-in_default g t c =
@@ -220,22 +203,19 @@ visit_value-returns-in_default g t c =
     (λ well (out, shown, written).
     let single = single_shown d c.args.depth (shows_in d c.args.depth) c.args.context.now c.args.level c.args.at family (buffer_in x) c.buffer-buffer.result _ known.result.content out well has c.buffer-buffer.ensures
     (ap family_in c.set-family.ensures) c.in_default.not-List shown in
-    (out, unless_kept _ _ out well kept single, written)) c.visit_single.ensures
+    (out, rw kept single, written)) c.visit_single.ensures
 
 pub visit_single-begin-requires-clause-reached : goal.visit_single-begin-requires-clause-reached
 visit_single-begin-requires-clause-reached g t c =
-    let payload : Stretch = (c.args.at + 4, payload_of c.args.buffer) in
-    let list = list_in c.args.known.now.content payload in
-    subst (g.V.ListVisitor.reaches c.args.visitor.now) (sym (ap (λ h. h.list) c.held_list-held.ensures))
-    (g.met.V.ListVisitor.part c.args.visitor.now payload list c.requires.reached (held_within c.args.known.now.content payload))
+    held_reached (g.V.ListVisitor.reaches c.args.visitor.now) (g.met.V.ListVisitor.part c.args.visitor.now) c.args.known.now.content (c.args.at + 4, payload_of c.args.buffer) _
+    (ap (λ h. h.list) c.held_list-held.ensures) c.requires.reached
 
 pub visit_single-visit_list-requires : goal.visit_single-visit_list-requires
 visit_single-visit_list-requires g t c κs within =
-    let payload : Stretch = (c.args.at + 4, payload_of c.args.buffer) in
-    let list = list_in c.args.known.now.content payload in
-    let some = subst (λ a. IfSome a (λ _. 0 < c.args.depth)) c.in-Some.is c.opened_at.ensures.depth in
-    let reached = subst (g.V.ListVisitor.reaches c.args.visitor.now) (sym (ap (λ h. h.list) c.held_list-held.ensures))
-    (g.met.V.ListVisitor.part c.args.visitor.now payload list c.requires.reached (held_within c.args.known.now.content payload)) in
+    let some = rw c.in-Some.is at c.opened_at.ensures.depth in
+    let reached =
+    held_reached (g.V.ListVisitor.reaches c.args.visitor.now) (g.met.V.ListVisitor.part c.args.visitor.now) c.args.known.now.content (c.args.at + 4, payload_of c.args.buffer) _
+    (ap (λ h. h.list) c.held_list-held.ensures) c.requires.reached in
     (omega (arith, some), (within.0, (within.1.0, (within.1.1, (omega (arith, some, c.requires.levels), reached)))))
 
 pub visit_single-returns-in_ok-whole-in-Some : goal.visit_single-returns-in_ok-whole-in-Some
@@ -248,11 +228,9 @@ visit_single-returns-in_ok-whole-in-Some g t c =
     let content = c.args.known.now.content in
     let set = c.in-Some.set in
     let h = holder_of c.held_list-held.result in
-    let answer = subst (Answers c.args.depth c.args.list (IsOpened (holding_at c.args.context.now c.args.family c.args.list f)) content) c.in-Some.is opened.ensures.answer in
-    let some = subst (λ a. IfSome a (λ _. 0 < c.args.depth)) c.in-Some.is opened.ensures.depth in
-    let is : h ≡ holder_at c.args.family c.args.list (Some set) c.args.at b content =
-    c.held_list-held.ensures
-    ∙ ap (λ l. record { label = l; family = c.args.family; set = Some set; header = header_before content (payload_of b); list = list_in content (c.args.at + 4, payload_of b) }) c.requires.known.label in
+    let answer = rw c.in-Some.is at opened.ensures.answer in
+    let some = rw c.in-Some.is at opened.ensures.depth in
+    let is : h ≡ holder_at c.args.family c.args.list (Some set) c.args.at b content = rw c.requires.known.label at c.held_list-held.ensures in
     IfOk-weaker c.end.result _ _
     (λ well closes.
     let (out, around, written) = closes c.args.writer.now c.begin.new.writer inner c.in_ok-begin-in-Some.ensures added in (

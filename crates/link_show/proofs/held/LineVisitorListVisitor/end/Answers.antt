@@ -1,9 +1,7 @@
-use Rattle.std.proofs.Common.{◌+◌, ◌++◌, [], true, replicate, refl, sym, subst}
-use Rattle.netlink_packet_route.specs.Family.{table_of}
+use Rattle.std.proofs.Common.{◌+◌, ◌++◌, true, replicate, refl}
 use Rattle.link_messages.specs.Shown.{holder_of}
-use Rattle.link_show.specs.List.{ShowsVerdict}
 use Rattle.link_show.specs.Held.{indent_in, ShowsJudgement}
-use Rattle.link_show.proofs.HeldLines.{unasked, asked, around_plain, around_judged}
+use Rattle.link_show.proofs.HeldLines.{unasked, around_plain, around_judged}
 use Rattle.link_show.proofs.held.LineVisitorListVisitor.end.Goals as goal
 
 pub returns-then-not-self : goal.returns-then-not-self
@@ -22,12 +20,11 @@ returns-in_ok-canonical-in-Some g c = λ a b inner begun added.
     let h = holder_of c.args.held.now in
     let indent = v.text.now ++ replicate v.spaces 32 in
     let here = indent_in indent (c.args.level + 1) in
-    let set = c.in-Some.set in
     let (verdict, of, written) = c.in_ok-canonical-in-Some.ensures in
     let well = c.in_ok-canonical-in-Some.canonical in
-    let judged = asked v.options.check here set h.list verdict well c.if-not-self.false (subst (λ i. ShowsVerdict true i h.list.0 (table_of set) h.list.1 verdict well) c.indent.ensures of) in
-    around_judged v.options indent c.args.level h inner c.args.whole (output a) (output b) begun (output c.args.writer.now) (output c.write_judgement.new.writer) verdict well
-    (subst (λ s. ShowsJudgement v.options.check here s h.list verdict well) (sym c.in-Some.is) judged) added written
+    let judged : ShowsJudgement v.options.check here h.set h.list verdict well = rw (c.if-not-self.false, c.in-Some.is) (rw c.indent.ensures at of) in
+    around_judged v.options indent c.args.level h inner c.args.whole (output a) (output b) begun (output c.args.writer.now)
+    (output c.write_judgement.new.writer) verdict well judged added written
 
 pub returns-in-None : goal.returns-in-None
 returns-in-None g c = λ a b inner begun added.
@@ -36,4 +33,4 @@ returns-in-None g c = λ a b inner begun added.
     let h = holder_of c.args.held.now in
     let indent = v.text.now ++ replicate v.spaces 32 in
     around_plain v.options indent c.args.level h inner c.args.whole (output a) (output b) begun (output c.args.writer.now)
-    (subst (λ s. ShowsJudgement v.options.check (indent_in indent (c.args.level + 1)) s h.list [] true) (sym c.in-None.is) (refl, refl)) added
+    (rw c.in-None.is (refl, refl)) added
