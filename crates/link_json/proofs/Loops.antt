@@ -1,5 +1,6 @@
 -- Loops that write tokens: what is written and what is left are the whole.
-use Rattle.std.proofs.Common.{◌≡◌, ◌≢◌, ℕ, ◌+◌, ◌-◌, ◌*◌, ◌<◌, ◌≤◌, ◌==◌, true, false, true≢false, eqb-true, List, [], ◌∷◌, ◌++◌, map, drop, length, refl, ap, sym, ◌∙◌, arith, slice_index_or, bit_and, append_assoc, Result, Ok, Err, OnOk}
+use Rattle.std.proofs.Common.{◌≡◌, ◌≢◌, ℕ, ◌+◌, ◌-◌, ◌*◌, ◌<◌, ◌≤◌, ◌==◌, true, false, true≢false, eqb-true, not, List, [], ◌∷◌, ◌++◌, map, drop, length, refl, ap, sym, ◌∙◌, arith, slice_index_or, bit_and, append_assoc, Result, Ok, Err, OnOk}
+use Rattle.std.proofs.lemmas.Bool.{cond-true, cond-false, eq-eqb, ne_eqb}
 use Rattle.std.proofs.lemmas.List.{at_drop_more, at_drop_all}
 use Rattle.json.specs.Token.{Token, string, key, end_array}
 use Rattle.json.specs.Json.{string as string_json}
@@ -10,7 +11,7 @@ use Rattle.link_base.specs.Forms.{size_in}
 use Rattle.link_base.specs.Labels.{names_in, name_in}
 use Rattle.link_base.specs.Layout.{number_at, numbers_at}
 use Rattle.link_show.proofs.Arrays.{numbers_more}
-use Rattle.link_show.proofs.FlagWords.{set_more, set_other}
+use Rattle.link_show.specs.Flags.{set_names}
 use Rattle.link_json.specs.Doc.{items_of, members_of, object_of, array_of}
 use Rattle.link_json.specs.Value.{names_json, item_json, place_key, places_json, numbers_json}
 
@@ -37,6 +38,13 @@ all_moved_then (Err e) old mid new whole left piece before cut wrote = wrote
 -- the tokens of the names that are left
 abbrev pub names_left : List Name → ℕ → ℕ → List Token
 names_left xs bits i = items_tokens (items_of (names_json (names_in (drop i xs)) bits))
+
+-- the names from one on, if its bit is set, and if not
+set_more : (x : Name) (xs : List Name) (bits : ℕ) → bit_and bits x.number ≢ 0 → set_names (names_in (x ∷ xs)) bits ≡ (x.number, x.text.now) ∷ set_names (names_in xs) bits
+set_more x xs bits h = cond-true _ _ _ (ap not (ne_eqb _ _ h))
+
+set_other : (x : Name) (xs : List Name) (bits : ℕ) → bit_and bits x.number ≡ 0 → set_names (names_in (x ∷ xs)) bits ≡ set_names (names_in xs) bits
+set_other x xs bits h = cond-false _ _ _ (ap not (eq-eqb _ _ h))
 
 pub name_more : (xs : List Name) (i bits : ℕ) (d : Name) → i < length xs → bit_and bits (slice_index_or xs i d).number ≢ 0
     → names_left xs bits i ≡ string (slice_index_or xs i d).text.now ∷ names_left xs bits (i + 1)
@@ -67,7 +75,7 @@ abbrev pub numbers_left : ArrayOf → ℕ → ℕ → List ℕ → List Token
 numbers_left a n i p = items_tokens (items_of (map (item_json a) (numbers_at (size_in a) (n - i) (i * size_in a) p)))
 
 pub number_more : (a : ArrayOf) (n i : ℕ) (p : List ℕ) → i < n → numbers_left a n i p ≡ json_tokens (item_json a (number_at (size_in a) (i * size_in a) p)) ++ numbers_left a n (i + 1) p
-number_more a n i p h = ap (λ ns. items_tokens (items_of (map (item_json a) ns))) (numbers_more (size_in a) n i _ p h refl)
+number_more a n i p h = ap (λ ns. items_tokens (items_of (map (item_json a) ns))) (numbers_more (size_in a) n i p h)
 
 -- ---- arrays whose places have names
 
@@ -80,4 +88,4 @@ abbrev pub place_tokens : List (ℕ × List ℕ) → ArrayOf → ℕ → List �
 place_tokens names a i p = key (place_key i (name_in names i)) ∷ json_tokens (item_json a (number_at (size_in a) (i * size_in a) p))
 
 pub place_more : (names : List (ℕ × List ℕ)) (a : ArrayOf) (n i : ℕ) (p : List ℕ) → i < n → places_left names a n i p ≡ place_tokens names a i p ++ places_left names a n (i + 1) p
-place_more names a n i p h = ap (λ ns. members_tokens (members_of (places_json names a i ns))) (numbers_more (size_in a) n i _ p h refl)
+place_more names a n i p h = ap (λ ns. members_tokens (members_of (places_json names a i ns))) (numbers_more (size_in a) n i p h)

@@ -2,11 +2,7 @@ pub mod Written
 pub mod Digits
 pub mod Pieced
 pub mod Segments
-pub mod FlagWords
 pub mod Arrays
-pub mod Numbered
-pub mod Ticks
-pub mod Places
 pub mod StructFields
 pub mod ValueTexts
 pub mod Lines

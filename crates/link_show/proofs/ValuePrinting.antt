@@ -1,5 +1,5 @@
 -- The texts of values and of errors are printable.
-use Rattle.std.proofs.Common.{◌≡◌, ℕ, ◌+◌, ◌/◌, ◌%◌, ◌==◌, nat_lt, Bool, true, false, ◌&&◌, not, List, [], ◌∷◌, ◌++◌, length, map, take, drop, Option, Some, None, option_map, refl, ap₂, codes}
+use Rattle.std.proofs.Common.{◌≡◌, ℕ, ◌+◌, ◌==◌, nat_lt, Bool, true, false, ◌&&◌, not, List, [], ◌∷◌, ◌++◌, length, map, take, drop, Option, Some, None, option_map, refl, ap₂, codes}
 use Rattle.std.specs.Prelude.{nat_le, if◌then◌else◌}
 use Rattle.std.specs.List.{list_all, AllByRecursion}
 use Rattle.std.specs.Str.{bytes_eq}
@@ -42,14 +42,14 @@ use Rattle.link_base.specs.WellFormed.{is_printable, are_names, are_fields, has_
 use Rattle.link_base.specs.Lift.{lift_table}
 use Rattle.netlink_packet_route.specs.Opening.{without_nul}
 use Rattle.link_show.specs.Text.{hex_number}
-use Rattle.link_show.specs.Number.{seconds_of, beside, unit_of, number_text, item_text, array_text}
+use Rattle.link_show.specs.Number.{beside, unit_of, number_text, item_text, array_text}
 use Rattle.link_show.specs.Counters.{place_text, zeros_word, counter_words, counters_text, numbers_text}
 use Rattle.link_show.specs.Flags.{named_text, enum_text, set_names, unnamed, last_word, flag_words, is_all, flags_text}
-use Rattle.link_show.specs.Structs.{field, two_fields, role_text, form_text, field_in, field_text, pair_fields, masked_fields, has_fields, fields_text, bridge_id_text, struct_text, limits_text}
+use Rattle.link_show.specs.Structs.{field, role_text, form_text, field_in, field_text, pair_fields, masked_fields, has_fields, fields_text, bridge_id_text, struct_text, limits_text}
 use Rattle.link_show.specs.Value.{other_text, counted_in, number_or_address, content_text, value_text}
-use Rattle.link_show.specs.Fault.{bytes_text, opaque_text, expected_word, cause_words, kind_text, is_array, payload_fault, fault_text}
+use Rattle.link_show.specs.Fault.{bytes_text, opaque_text, cause_words, kind_text, is_array, payload_fault, fault_text}
 use Rattle.link_show.specs.Printable.{IsText, has_texts}
-use Rattle.link_show.proofs.Printing.{text, none, and, either, joined_text, decimal_text, signed_text, hex_digits, hex_bytes, address_digits, quoted_text, ipv4_is_text, ip6_is_text}
+use Rattle.link_show.proofs.Printing.{text, none, and, either, mapped, joined_text, decimal_text, signed_text, hex_digits, hex_bytes, address_digits, quoted_text, ipv4_is_text, ip6_is_text}
 
 -- ---- names
 
@@ -94,11 +94,8 @@ unit_text q = text refl
 hex_number_text : (n : ℕ) → IsText (hex_number n)
 hex_number_text n = and {s = codes "0x"} (text refl) (hex_digits n)
 
-seconds_text : (n : ℕ) → IsText (seconds_of n)
-seconds_text n = and (decimal_text (n / 100)) (and {s = codes "."} (text refl) (and (decimal_text (n / 10 % 10)) (decimal_text (n % 10))))
-
 pub number_is_text : (q : Quantity) (n : ℕ) → IsText (number_text q n)
-number_is_text quantities.ClockTicks n = beside_text (decimal_text n) (and (seconds_text n) (text refl))
+number_is_text quantities.ClockTicks n = beside_text (decimal_text n) (and (and (decimal_text _) (and {s = codes "."} (text refl) (and (decimal_text _) (decimal_text _)))) (text refl))
 number_is_text quantities.InterfaceIndex n = and {s = codes "ifindex "} (text refl) (decimal_text n)
 number_is_text quantities.Mask n = beside_text (decimal_text n) (hex_number_text n)
 number_is_text q n = and (decimal_text n) (unit_text q)
@@ -107,14 +104,10 @@ item_is_text : (a : ArrayOf) (n : ℕ) → IsText (item_text a n)
 item_is_text I32 n = signed_text (cast_signed w32 n)
 item_is_text a n = decimal_text n
 
-each_item : (a : ArrayOf) (numbers : List ℕ) → AllByRecursion IsText (map (item_text a) numbers)
-each_item a [] = tt
-each_item a (n ∷ numbers) = (item_is_text a n, each_item a numbers)
-
 array_is_text : (q : Quantity) (a : ArrayOf) (numbers : List ℕ) → IsText (array_text q a numbers)
 unfolding array_text
 array_is_text q a [] = text refl
-array_is_text q a (n ∷ numbers) = and (joined_text (codes " ") (map (item_text a) (n ∷ numbers)) (text refl) (each_item a (n ∷ numbers))) (unit_text q)
+array_is_text q a (n ∷ numbers) = and (joined_text (codes " ") (map (item_text a) (n ∷ numbers)) (text refl) (mapped (item_text a) (item_is_text a) (n ∷ numbers))) (unit_text q)
 
 -- ---- arrays whose places have names
 
@@ -165,9 +158,6 @@ flags_is_text names n bits h =
 
 pub field_is_text : (name : List ℕ) {t : List ℕ} → IsText name → IsText t → IsText (field name t)
 field_is_text name h k = and {s = name} h (and {s = codes " "} (text refl) k)
-
-two_text : {s t : List ℕ} → IsText s → IsText t → IsText (two_fields s t)
-two_text h k = and h (and {s = codes " "} (text refl) k)
 
 role_is_text : (names : List (ℕ × List ℕ)) (q : Quantity) (role : Role) (width : Width) (n : ℕ) → EachName names → IsText (role_text names q role width n)
 role_is_text names q roles.Plain width n h = number_is_text q n
@@ -220,7 +210,7 @@ struct_is_text layouts.BridgeId fields names p h n = bridge_id_is_text p
 struct_is_text layout fields names p h n = fields_are_text fields 0 names p n h
 
 limits_is_text : (name p : List ℕ) → IsText (limits_text name p)
-limits_is_text name p = two_text (field_is_text (codes "name") (text refl) (quoted_text name)) (fields_are_text limit_fields 16 [] p tt (each_field limit_fields refl))
+limits_is_text name p = and (field_is_text (codes "name") (text refl) (quoted_text name)) (and {s = codes " "} (text refl) (fields_are_text limit_fields 16 [] p tt (each_field limit_fields refl)))
 
 -- ---- what is known of an attribute type
 
@@ -332,24 +322,18 @@ content_is_text label (contents.Limits name numbers) l = limits_is_text name.now
 content_is_text label (contents.Other p) l = other_is_text p.now
 content_is_text label content l = none
 
-unlabelled_is_text : (content : Content) → IsText (value_text None content)
-unlabelled_is_text (contents.Other p) = other_is_text p.now
-unlabelled_is_text content = none
-
 pub value_is_text : (label : Option Label) (content : Content) → IsLabelText label → IsText (value_text label content)
-value_is_text None content l = unlabelled_is_text content
+value_is_text None (contents.Other p) l = other_is_text p.now
+value_is_text None content l = none
 value_is_text (Some label) content l = content_is_text label content l
 
 -- ---- errors
-
-expected_text : (b : Bool) → IsText (expected_word b)
-expected_text b = either b (text refl) (text refl)
 
 pub cause_is_text : (b : Bool) (cause : Cause) → IsText (cause_words b cause)
 cause_is_text b (causes.ShortFrame left) = bytes_is_text left (text refl)
 cause_is_text b (causes.SmallLength n) = and {s = codes "nla_len "} (text refl) (and (decimal_text n) (text refl))
 cause_is_text b (causes.Overrun n left) = and (and {s = codes "nla_len "} (text refl) (and (decimal_text n) (text refl))) (bytes_is_text left (text refl))
-cause_is_text b (causes.WrongLength want got) = and {s = codes "has "} (text refl) (bytes_is_text got (and (expected_text b) (decimal_text want)))
+cause_is_text b (causes.WrongLength want got) = and {s = codes "has "} (text refl) (bytes_is_text got (and (either b (text refl) (text refl)) (decimal_text want)))
 cause_is_text b (causes.TooShort want got) = and {s = codes "has "} (text refl) (bytes_is_text got (and {s = codes ", expected at least "} (text refl) (decimal_text want)))
 cause_is_text b (causes.AddressLength got) = and {s = codes "has "} (text refl) (bytes_is_text got (text refl))
 

@@ -1,6 +1,7 @@
 -- What a loop has written so far.
 use Rattle.std.proofs.Common.{◌≡◌, ℕ, List, [], ◌∷◌, ◌++◌, Result, Ok, Err, OnOk, refl, sym, ap, subst, ◌∙◌, append_assoc}
 use Rattle.link_show.specs.Sink.{Output, Gains}
+use Rattle.std.proofs.lemmas.List.{drop_more, drop_all}
 use Rattle.link_show.specs.Gained.{gains_nothing, gains_more}
 use Rattle.link_show.specs.Text.{after}
 
@@ -23,10 +24,6 @@ one_written old mid new text rest t others w e a =
       whole = w.whole ∙ ap (λ r. w.front ++ r) e ∙ sym (append_assoc w.front t others);
     }
 
--- what was written, if the rest is e
-pub same_rest : (old new : Output) (text rest others : List ℕ) → WritesFront old new text rest → rest ≡ others → WritesFront old new text others
-same_rest old new text rest others w e = subst (WritesFront old new text) e w
-
 -- of texts with separators, one more was written, and a separator stands before the next
 pub next_written : (old mid new : Output) (text first next separator t : List ℕ) (texts others : List (List ℕ))
     → WritesFront old mid text (after first separator texts) → texts ≡ t ∷ others → Gains mid new (first ++ t) → next ≡ separator
@@ -35,6 +32,14 @@ next_written old mid new text first next separator t texts others w e a n =
     subst (λ s. WritesFront old new text (after s separator others)) (sym n)
     (one_written old mid new text (after first separator texts) (first ++ t) (after separator separator others) w
     (ap (after first separator) e ∙ sym (append_assoc first t (after separator separator others))) a)
+
+-- likewise, if the separator and the text were written apart
+pub next_two : (old mid more new : Output) (text first next separator t : List ℕ) (texts others : List (List ℕ)) → WritesFront old mid text (after first separator texts) → Gains mid more first
+    → Gains more new t → texts ≡ t ∷ others → next ≡ separator → WritesFront old new text (after next separator others)
+next_two old mid more new text first next separator t texts others w p q e n = next_written old mid new text first next separator t texts others w e (gains_more mid more new first t p q) n
+
+-- what the prover tries in a loop over texts with separators
+pub ruleset next_steps = (next_written, next_two, drop_more, drop_all)
 
 -- a text was written, and then, unless the call failed, another
 pub then_written : {X E : Type 0} (r : Result X E) (old mid new : Output) (t more : List ℕ) → Gains old mid t → OnOk r (Gains mid new more) → OnOk r (Gains old new (t ++ more))

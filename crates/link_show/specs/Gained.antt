@@ -77,6 +77,17 @@ gains_more (Front a n) (Front b m) (Front c k) s t p q =
 pub gains_all : (old mid new : Output) (s t text : List ℕ) → Gains old mid s → Gains mid new t → text ≡ s ++ t → Gains old new text
 gains_all old mid new s t text p q e = subst (Gains old new) (sym e) (gains_more old mid new s t p q)
 
+-- a text was written in three parts
+pub gains_three : (a b c d : Output) (s t u text : List ℕ) → Gains a b s → Gains b c t → Gains c d u → text ≡ s ++ (t ++ u) → Gains a d text
+gains_three a b c d s t u text p q r e = gains_all a b d s (t ++ u) text p (gains_more b c d t u q r) e
+
+-- a text was written in four parts
+pub gains_four : (a b c d f : Output) (s t u v text : List ℕ) → Gains a b s → Gains b c t → Gains c d u → Gains d f v → text ≡ s ++ (t ++ (u ++ v)) → Gains a f text
+gains_four a b c d f s t u v text p q r w e = gains_all a b f s (t ++ (u ++ v)) text p (gains_three b c d f t u v _ q r w refl) e
+
+-- what the prover tries where a text is written in parts
+pub ruleset chains = (gains_all, gains_three, gains_four)
+
 -- a text was written, and then, unless the call failed, the rest of a text
 pub then_all : {X E : Type 0} (r : Result X E) (old mid new : Output) (s t text : List ℕ) → Gains old mid s → OnOk r (Gains mid new t) → text ≡ s ++ t → OnOk r (Gains old new text)
 then_all (Ok x) old mid new s t text p q e = gains_all old mid new s t text p q e

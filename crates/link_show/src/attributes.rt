@@ -31,6 +31,7 @@ pub const TYPE_FLAGS: &[Name] = names![
 /// # Errors
 ///
 /// That of the writer.
+#[tactic(auto, using(crate::proofs::ValueTexts::attribute_written))]
 pub fn write_attribute<S: AttributeSet, W: Sink>(
     writer: &mut W,
     value: &Value<'_, S>,
@@ -43,7 +44,7 @@ pub fn write_attribute<S: AttributeSet, W: Sink>(
 }
 
 /// Writes an attribute with this label and this content in one line.
-#[tactic(auto, unfolding(crate::specs::List::attribute_text))]
+#[tactic(auto, using(std::proofs::lemmas::Grind::common_steps, crate::specs::Gained::chains), unfolding(crate::specs::List::attribute_text))]
 pub(crate) fn write_in_one_line<W: Sink>(
     writer: &mut W,
     known: &Known<'_>,
@@ -91,7 +92,7 @@ fn write_type_flags<W: Sink>(writer: &mut W, flags: u16) -> Result<(), W::Error>
         return Ok(());
     }
     writer.put(b" ")?;
-    write_flags(writer, TYPE_FLAGS, Width::Two, flags.into())
+    write_flags(writer, TYPE_FLAGS, Width::Two, flags as u64)
 }
 
 /// Checks whether a content is written after the name.

@@ -54,6 +54,7 @@ fn write_counters<W: Sink>(
 }
 
 /// Writes the first `count` numbers of an array by the names of their places.
+#[tactic(auto, using(std::proofs::lemmas::Bool::Decides::nat_tests, crate::proofs::Arrays::numbers_more, crate::proofs::Written::next_steps, crate::specs::Gained::chains))]
 fn write_words<W: Sink>(
     writer: &mut W,
     names: &[Name],
@@ -83,6 +84,7 @@ fn write_words<W: Sink>(
 
 /// Returns the names without those at the front of places before this one. Names are mostly in order, so the next that is
 /// looked up is then the first.
+#[tactic(auto, using(std::proofs::lemmas::Grind::common_steps, std::proofs::lemmas::List::drop_more))]
 pub fn names_from(names: &[Name], place: u64) -> &[Name]
     ensures { (k : ℕ) → place ≤ k → name_in (names_in result.now) k ≡ name_in (names_in names.now) k }
 {
@@ -131,6 +133,7 @@ fn write_place<W: Sink>(writer: &mut W, name: Option<&str>, place: u64) -> Resul
 }
 
 /// Writes how many numbers are zero after a separator, unless none is.
+#[tactic(auto, using(std::proofs::lemmas::Grind::common_steps, crate::specs::Gained::chains))]
 fn write_zeros<W: Sink>(writer: &mut W, separator: &[u8], zeros: u64) -> Result<(), W::Error>
     ensures { OnOk result (Gains (W.output writer.old) (W.output writer.new)
         (after separator.now (codes " ") (zeros_word zeros))) }

@@ -68,6 +68,7 @@ pub fn write_flags<W: Sink>(
 }
 
 /// Returns the bits that have no name.
+#[tactic(auto, using(std::proofs::lemmas::List::drop_more, std::proofs::lemmas::List::drop_all))]
 fn without_names(names: &[Name], bits: u64) -> u64
     ensures { result ≡ unnamed (names_in names.now) bits }
 {
@@ -79,6 +80,7 @@ fn without_names(names: &[Name], bits: u64) -> u64
 }
 
 /// Writes the names of the bits that are set, and `left`, the bits that have no name.
+#[tactic(auto, using(std::proofs::lemmas::Bool::Decides::nat_tests, crate::proofs::Written::next_steps))]
 fn write_words<W: Sink>(
     writer: &mut W,
     names: &[Name],
@@ -100,6 +102,7 @@ fn write_words<W: Sink>(
 }
 
 /// Writes the bits that have no name after a separator, if there are any.
+#[tactic(auto, using(std::proofs::lemmas::Grind::common_steps, crate::specs::Gained::chains))]
 fn write_last<W: Sink>(writer: &mut W, separator: &[u8], left: u64) -> Result<(), W::Error>
     ensures { OnOk result (Gains (W.output writer.old) (W.output writer.new)
         (after separator.now (codes "|") (last_word left))) }

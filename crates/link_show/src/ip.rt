@@ -39,6 +39,7 @@ pub fn write_ipv4<W: Sink>(writer: &mut W, address: &[u8]) -> Result<(), W::Erro
 /// # Errors
 ///
 /// That of the writer.
+#[tactic(auto, using(crate::proofs::Segments::low_bytes))]
 pub fn write_ipv6<W: Sink>(writer: &mut W, address: &[u8]) -> Result<(), W::Error>
     requires { length address.now ≡ 16 }
     ensures { OnOk result (Gains (W.output writer.old) (W.output writer.new) (ip6_text address.now)) }
@@ -48,6 +49,7 @@ pub fn write_ipv6<W: Sink>(writer: &mut W, address: &[u8]) -> Result<(), W::Erro
 }
 
 /// Writes an IPv6 address; one that stands for an IPv4 address ends in it.
+#[tactic(auto, using(crate::proofs::Segments::mapped_steps), unfolding(std::specs::Net::Text::ipv6_text))]
 fn write_mapped<W: Sink>(writer: &mut W, address: Ipv6Addr) -> Result<(), W::Error>
     ensures { OnOk result (Gains (W.output writer.old) (W.output writer.new)
         (Text.ipv6_text (ipv6_segments address))) }
@@ -62,6 +64,7 @@ fn write_mapped<W: Sink>(writer: &mut W, address: Ipv6Addr) -> Result<(), W::Err
 }
 
 /// Writes segments, with `::` in place of the longest run of zeros, if it has two or more.
+#[tactic(auto, using(crate::proofs::Segments::group_steps), unfolding(std::specs::Net::Text::hex_groups_text))]
 fn write_groups<W: Sink>(writer: &mut W, segments: &[u16]) -> Result<(), W::Error>
     ensures { OnOk result (Gains (W.output writer.old) (W.output writer.new)
         (Text.hex_groups_text segments.now)) }
@@ -77,6 +80,7 @@ fn write_groups<W: Sink>(writer: &mut W, segments: &[u16]) -> Result<(), W::Erro
 }
 
 /// Returns the start and the length of the longest run of zeros, of the first of that length.
+#[tactic(auto, using(std::proofs::lemmas::Grind::common_steps))]
 fn longest_zero_run(segments: &[u16]) -> (usize, usize)
     ensures value { result ≡ Text.longest_zero_run segments.now }
     ensures within { result.0 + result.1 ≤ length segments.now }
@@ -95,6 +99,7 @@ fn longest_zero_run(segments: &[u16]) -> (usize, usize)
 }
 
 /// Writes segments, with colons between them.
+#[tactic(auto, using(crate::proofs::Written::next_steps))]
 fn write_segments<W: Sink>(writer: &mut W, segments: &[u16]) -> Result<(), W::Error>
     ensures { OnOk result (Gains (W.output writer.old) (W.output writer.new)
         (joined (codes ":") (map Text.hex segments.now))) }
@@ -109,6 +114,7 @@ fn write_segments<W: Sink>(writer: &mut W, segments: &[u16]) -> Result<(), W::Er
 }
 
 /// Writes a segment in hexadecimal.
+#[tactic(auto, unfolding(std::specs::Net::Text::hex))]
 fn write_segment<W: Sink>(writer: &mut W, segment: u16) -> Result<(), W::Error>
     ensures { OnOk result (Gains (W.output writer.old) (W.output writer.new) (Text.hex segment)) }
 {

@@ -1,7 +1,7 @@
 //! The texts of link attributes, for people: of values, of numbers with what they count, of enums and sets of flags by
 //! name, of structs, and of errors. Each call writes to a [`Sink`] of the caller's, such as an `io::Write`, and allocates
 //! nothing.
-#![tactic(auto)]
+#![tactic(auto, using(crate::specs::Gained::chains))]
 
 /// Names, each after its number.
 macro_rules! names {

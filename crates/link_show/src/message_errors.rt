@@ -14,7 +14,7 @@ use link_messages::MessageError;
 /// # Errors
 ///
 /// That of the writer.
-#[tactic(auto, unfolding(crate::specs::Message::message_error_line))]
+#[tactic(auto, using(std::proofs::lemmas::Grind::common_steps, crate::specs::Gained::chains), unfolding(crate::specs::Message::message_error_line))]
 pub fn write_message_error<W: Sink>(
     writer: &mut W,
     indent: &str,

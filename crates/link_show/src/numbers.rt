@@ -84,6 +84,7 @@ pub(crate) fn write_array<W: Sink>(
 }
 
 /// Writes the first `count` numbers of an array, with spaces between them.
+#[tactic(auto, using(crate::proofs::Arrays::numbers_more, crate::proofs::Written::next_steps))]
 fn write_numbers<W: Sink>(
     writer: &mut W,
     of: ArrayOf,
@@ -139,6 +140,7 @@ pub fn number_at(width: Width, index: usize, bytes: &[u8]) -> u64
 }
 
 /// Writes clock ticks, which are hundredths of a second, and how many seconds they are.
+#[tactic(auto, using(std::proofs::lemmas::Grind::common_steps, std::proofs::lemmas::Fmt::decimal_digit, crate::specs::Gained::chains))]
 fn write_ticks<W: Sink>(writer: &mut W, ticks: u64) -> Result<(), W::Error>
     ensures { OnOk result (Gains (W.output writer.old) (W.output writer.new) (number_text ClockTicks ticks)) }
 {

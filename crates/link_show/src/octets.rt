@@ -12,6 +12,7 @@ use crate::sink::Sink;
 /// # Errors
 ///
 /// That of the writer.
+#[tactic(auto, using(crate::proofs::Written::next_steps))]
 pub fn write_address<W: Sink>(writer: &mut W, address: &[u8]) -> Result<(), W::Error>
     ensures { OnOk result (Gains (W.output writer.old) (W.output writer.new) (address_text address.now)) }
 {
@@ -28,6 +29,7 @@ pub fn write_address<W: Sink>(writer: &mut W, address: &[u8]) -> Result<(), W::E
 
 /// Writes a byte after a colon, which is left out if `skipped` is 1.
 #[inline(always)]
+#[tactic(auto, using(crate::proofs::Digits::one_digit))]
 fn write_byte_after<W: Sink>(writer: &mut W, skipped: usize, byte: u8) -> Result<(), W::Error>
     requires { skipped ≤ 1 }
     ensures { OnOk result (Gains (W.output writer.old) (W.output writer.new) (drop skipped (codes ":") ++ byte_text byte)) }
@@ -52,6 +54,7 @@ pub fn write_hex<W: Sink>(writer: &mut W, bytes: &[u8]) -> Result<(), W::Error>
     Ok(())
 }
 
+#[tactic(auto, using(crate::proofs::Digits::one_digit))]
 pub(crate) fn write_byte<W: Sink>(writer: &mut W, byte: u8) -> Result<(), W::Error>
     ensures { OnOk result (Gains (W.output writer.old) (W.output writer.new) (byte_text byte)) }
 {

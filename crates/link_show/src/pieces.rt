@@ -24,6 +24,7 @@ pub(crate) enum Piece<'a> {
 
 /// Writes the pieces of a text.
 #[inline(always)]
+#[tactic(auto, using(crate::proofs::Pieced::piece_steps))]
 pub(crate) fn put_pieces<W: Sink>(writer: &mut W, pieces: &[Piece<'_>]) -> Result<(), W::Error>
     ensures { OnOk result (Gains (W.output writer.old) (W.output writer.new) (pieces_text pieces.now)) }
 {
@@ -47,6 +48,7 @@ fn put_piece<W: Sink>(writer: &mut W, piece: Piece<'_>) -> Result<(), W::Error>
 
 /// Writes a number in decimal. Most have one digit.
 #[inline(always)]
+#[tactic(auto, using(std::proofs::lemmas::Fmt::decimal_digit))]
 pub(crate) fn put_number<W: Sink>(writer: &mut W, number: u64) -> Result<(), W::Error>
     ensures { OnOk result (Gains (W.output writer.old) (W.output writer.new) (decimal number)) }
 {
@@ -96,6 +98,7 @@ pub(crate) fn put_hex<W: Sink>(writer: &mut W, number: u64) -> Result<(), W::Err
 }
 
 /// Stores the hexadecimal digits of a number at the end of a buffer. Returns the place of the first.
+#[tactic(auto, using(crate::proofs::Digits::digit_steps))]
 fn store_hex(number: u64, digits: &mut [u8]) -> usize
     requires { length digits.old ≡ 64 }
     ensures within { result ≤ 64 }

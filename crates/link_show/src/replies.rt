@@ -53,6 +53,7 @@ pub fn has_result(reply: &Acknowledgement<'_>) -> bool
 }
 
 /// Writes the line of the result of a request: `ack` for 0, otherwise an error.
+#[tactic(auto, unfolding(crate::specs::Message::result_line))]
 fn write_result<W: Sink>(writer: &mut W, reply: &Acknowledgement<'_>) -> Result<(), W::Error>
     ensures { OnOk result (Gains (W.output writer.old) (W.output writer.new)
         (result_line reply.now.error)) }

@@ -58,7 +58,7 @@ pub fn write_struct<W: Sink>(
 }
 
 /// Writes the priority of a bridge identifier as four hexadecimal digits, and its address.
-#[tactic(auto, unfolding(crate::specs::Structs::bridge_id_text))]
+#[tactic(auto, using(std::proofs::lemmas::Grind::common_steps, crate::specs::Gained::chains), unfolding(crate::specs::Structs::bridge_id_text))]
 fn write_bridge_id<W: Sink>(writer: &mut W, bytes: &[u8]) -> Result<(), W::Error>
     ensures { OnOk result (Gains (W.output writer.old) (W.output writer.new) (bridge_id_text bytes.now)) }
 {
@@ -72,7 +72,7 @@ fn write_bridge_id<W: Sink>(writer: &mut W, bytes: &[u8]) -> Result<(), W::Error
 
 /// Writes fields of a struct. `bytes` are those of the struct from offset `start` on. If a field is not within them, they
 /// are written in hexadecimal.
-#[tactic(auto, unfolding(crate::specs::Structs::fields_text))]
+#[tactic(auto, using(std::proofs::lemmas::Grind::common_steps, crate::proofs::Written::next_steps, crate::proofs::StructFields::field_there, crate::proofs::StructFields::all_within), unfolding(crate::specs::Structs::fields_text))]
 pub(crate) fn write_fields<W: Sink>(
     writer: &mut W,
     fields: &[Field],
@@ -103,6 +103,7 @@ pub fn has_fields(fields: &[Field], start: usize, bytes: &[u8]) -> bool
 }
 
 /// Checks whether all fields are within the bytes of a struct from offset `start` on.
+#[tactic(auto, using(std::proofs::lemmas::Grind::common_steps, std::proofs::lemmas::List::drop_more))]
 fn are_within(fields: &[Field], start: usize, bytes: &[u8]) -> bool
     ensures { result ≡ are_within (field_rows fields.now) start bytes.now }
 {

@@ -39,6 +39,7 @@ use std::net::Ipv6Addr;
 /// # Errors
 ///
 /// That of the writer.
+#[tactic(auto, using(crate::proofs::ValueTexts::value_written, crate::proofs::ValueTexts::value_unlabelled))]
 pub fn write_value<S: AttributeSet, W: Sink>(
     writer: &mut W,
     value: &Value<'_, S>,
@@ -150,6 +151,7 @@ fn write_bytes<W: Sink>(writer: &mut W, quantity: Quantity, bytes: &[u8]) -> Res
 }
 
 /// Returns the little-endian number in 4 or 8 bytes. Returns `None` for other bytes, and if the number counts nothing.
+#[tactic(auto, using(std::proofs::lemmas::Grind::common_steps))]
 pub fn counted_in(quantity: Quantity, bytes: &[u8]) -> Option<u64>
     ensures { result ≡ counted_in quantity bytes.now }
 {

@@ -1,4 +1,4 @@
-use Rattle.std.proofs.Common.{subst, sym, replicate, OnOk, arith}
+use Rattle.std.proofs.Common.{subst, OnOk, arith}
 use Rattle.std.proofs.lemmas.List.{take-replicate}
 use Rattle.link_show.specs.Sink.{Gains}
 use Rattle.link_show.proofs.indent.write_spaces.Goals as goal

@@ -1,4 +1,4 @@
-use Rattle.std.proofs.Common.{◌+◌, ◌++◌, true, replicate, refl}
+use Rattle.std.proofs.Common.{◌+◌, ◌++◌, replicate, refl}
 use Rattle.link_messages.specs.Shown.{holder_of}
 use Rattle.link_show.specs.Held.{indent_in, ShowsJudgement}
 use Rattle.link_show.proofs.HeldLines.{unasked, around_plain, around_judged}

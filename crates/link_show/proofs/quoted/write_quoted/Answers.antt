@@ -1,6 +1,0 @@
-use Rattle.std.proofs.Common.{refl}
-use Rattle.link_show.specs.Gained.{then_all}
-use Rattle.link_show.proofs.quoted.write_quoted.Goals as goal
-
-pub returns : goal.returns
-returns g c = then_all _ _ _ _ _ _ _ c.in_ok-put.ensures (then_all _ _ _ _ _ _ _ c.in_ok-write_quoted_bytes.ensures c.put-2.ensures refl) refl
