@@ -1,185 +1,166 @@
--- Documents are lines, and how deep they nest.
-use Rattle.std.proofs.Common.{◌≡◌, ℕ, suc, ℤ, ◌-◌, ◌+◌, ◌≤◌, Bool, true, false, not, List, [], ◌∷◌, ◌++◌, length, Option, Some, None, is_some, refl, sym, subst, arith, codes}
+-- Documents are lines, say whether they have an error, and nest at most 33 deep, or one deeper than the members of their place.
+use Rattle.std.proofs.Common.{◌≡◌, ℕ, ◌-◌, ◌+◌, ◌≤◌, Bool, true, false, not, ◌&&◌, List, [], ◌∷◌, ◌++◌, length, Option, Some, None, is_some, refl, sym, ap, subst, ◌∙◌, append_assoc, arith, codes}
 use Rattle.std.specs.List.{AllByRecursion}
 use Rattle.json.specs.Json.{Json, boolean, string}
-use Rattle.json.specs.Strict.{keys}
-use Rattle.json.specs.Tree.{depth, items_depth, members_depth}
+use Rattle.json.specs.Strict.{MembersHaveUniqueKeys}
+use Rattle.json.specs.Tree.{depth, items_depth, members_depth, MembersHaveNumbers}
 use Rattle.json.proofs.Printed.Trees.{document-print}
-use Rattle.link_base.specs.Labels.{name_in as name_for}
+use Rattle.link_base.proofs.Written.{all_each, all_append}
 use Rattle.netlink_packet_route.specs.declared.family.Family.{Family}
 use Rattle.netlink_packet_route.specs.declared.family.Family.TheVariants as families
 use Rattle.netlink_packet_route.specs.Family.{family_name}
 use Rattle.link_messages.specs.declared.acknowledgement.Acknowledgement.{Acknowledgement}
 use Rattle.link_messages.specs.declared.buffer_parts.Message.{Message}
 use Rattle.link_messages.specs.declared.message.MessageError.{MessageError}
+use Rattle.link_messages.proofs.Listing.{all_any, each_hold}
 use Rattle.link_show.specs.Message.{errno_name, offset_of, reason_text}
-use Rattle.link_show.specs.MessageNames.{message_types, flags_of}
-use Rattle.link_json.specs.Doc.{Field, members_of, items_of, object_of, array_of, signed_json, name_json, at_json}
-use Rattle.link_json.specs.Line.{IsLine, IsPlace, document_keys}
+use Rattle.link_show.specs.MessageNames.{flags_of}
+use Rattle.link_json.specs.Doc.{Field, members_of, items_of, object_of, array_of, at_json}
+use Rattle.link_json.specs.Line.{IsLine, IsPlace}
 use Rattle.link_json.specs.Value.{text_json}
-use Rattle.link_json.specs.Message.{message_error, message_fields, errno_json, SaysReply, says_something, shows_said, ShowsBody, Link, Reply, General, NoLink, NoReply, Other, whole_document, ShowsMessage, ShowsEnd, Ended, Empty, Done, Zeros, Broken, ShowsMessages}
+use Rattle.link_json.specs.Message.{message_error, message_fields, SaysReply, says_something, shows_said, ShowsBody, Link, Reply, General, NoLink, NoReply, Other, whole_document, ShowsMessage, ShowsEnd, Ended, Empty, Done, Zeros, Broken, ShowsMessages}
+use Rattle.link_json.specs.Ok.{SaysOk, SayOk}
 use Rattle.link_json.specs.Other.{place_document, fault_document, check_document, ShowsListDocument, ShowsCheck, IsCanonical, IsNot}
-use Rattle.link_json.proofs.Keys.{are_among, are_distinct, distinct_members}
-use Rattle.link_json.proofs.Sound.{IsSound, AreSound, EachSound, above, first_sound, others_sound, no_fields, field_sound, fields_both, object_sound, no_items, one_sound, each_both, array_sound, string_sound, boolean_sound, number_sound, signed_sound, name_sound, text_sound, named_sound, flags_sound, at_sound, error_sound}
-use Rattle.link_json.proofs.SoundLists.{shown_sound, family_sound, link_sound}
+use Rattle.link_json.proofs.Keys.{are_keyed, distinct_members}
+use Rattle.link_json.proofs.Oks.{one_says, and_say}
+use Rattle.link_json.proofs.Sound.{IsSound, AreSound, above, no_fields, field_sound, fields_facts, fields_both, object_sound, array_sound, string_sound, boolean_sound, number_sound, signed_sound, name_sound, text_sound, named_sound, flags_sound, at_sound, error_sound}
+use Rattle.link_json.proofs.SoundLists.{family_sound, link_sound}
 use Rattle.link_json.proofs.Unbroken.{text_unbroken}
-
--- ---- lines
-
-line : (j : Json) → IsSound (Unit {0}) 128 j → IsLine j
-line j h = record { reads_back = document-print j (h.numbers tt) h.shallow; unbroken = text_unbroken j (h.numbers tt); unique = h.unique tt }
-
-each_line : (js : List Json) → EachSound (Unit {0}) 128 js → AllByRecursion IsLine js
-each_line [] h = tt
-each_line (j ∷ js) h = (line j (first_sound j js h), each_line js (others_sound j js h))
-
--- ---- members
-
-module _ {K : Type 0} {d : ℕ} where
-  message_error_sound : (error : MessageError) → AreSound K (above 2 d) (message_error error ∷ [])
-  message_error_sound error = field_sound (error_sound (Some (offset_of error)) (reason_text error)) no_fields
-
-  message_sound : (m : Message) → AreSound K (above 2 d) (message_fields m)
-  message_sound m =
-      field_sound (number_sound (16 + length m.payload.now))
-      (field_sound (named_sound m.kind (name_for message_types m.kind)) (field_sound (flags_sound (flags_of m.kind) m.flags) (field_sound (number_sound m.sequence) (field_sound (number_sound m.port) no_fields))))
-
-  -- ---- replies
-
-  errno_sound : (e : ℤ) → IsSound K (suc d) (errno_json e)
-  errno_sound e = object_sound ((codes "number", signed_json e) ∷ (codes "name", name_json (errno_name e)) ∷ []) refl (field_sound (signed_sound e) (field_sound (name_sound (errno_name e)) no_fields))
-
-module _ {K : Type 0} {d : ℕ} where
-  reply_sound : (a : Acknowledgement) (j : Json) (well : Bool) → SaysReply a j well → IsSound K (above 32 d) j
-  reply_sound a j well (js, shown, e) =
-      let each : EachSound K (above 30 d) js = family_sound 0 families.Reply a.list.at a.list.bytes.now js well shown in
-      let fields : List Field = (codes "errno", errno_json a.error) ∷ (codes "attrs", array_of js) ∷ [] in
-      subst (IsSound K (above 32 d)) (sym e) (object_sound fields refl (field_sound (errno_sound a.error) (field_sound (array_sound js each) no_fields)))
-
--- ---- documents
 
 -- members, and the last
 abbrev ended : List Field → Bool → List Field
 ended fields well = fields ++ (codes "ok", boolean well) ∷ []
 
--- members that say where a document is from, as K says
-module _ {K : Type 0} {d : ℕ} (place : List Field) (is : K → IsPlace place) (placed : members_depth (members_of place) ≤ above 32 d) where
-  -- the place, and members whose keys are literals
-  with_place : (fields : List Field) → are_among document_keys (keys (members_of fields)) ≡ true → are_distinct (keys (members_of fields)) ≡ true → AreSound K (above 32 d) fields → IsSound K (above 33 d) (object_of (place ++ fields))
-  with_place fields e f h =
-      let all = fields_both place fields (record { numbers = λ k. (is k).numbers; unique = λ k. (is k).unique; shallow = placed }) h in
-      record { numbers = all.numbers; unique = λ k. (distinct_members place fields (is k).distinct e f, all.unique k); shallow = omega (arith, all.shallow) }
+-- a document from a place: it has these members besides those of the place, whose keys are literals
+pub record IsDocument (place : List Field) (j : Json) (well : Bool) : Type 0 where
+  fields : List Field
+  is : j ≡ whole_document place fields well
+  keyed : are_keyed (ended fields well) ≡ true
+  sound : (d : ℕ) → AreSound (above 32 d) (members_of (ended fields well))
 
-  -- the document of these members
-  whole_sound : (fields : List Field) (well : Bool) → are_among document_keys (keys (members_of (ended fields well))) ≡ true → are_distinct (keys (members_of (ended fields well))) ≡ true
-      → AreSound K (above 32 d) fields → IsSound K (above 33 d) (whole_document place fields well)
-  whole_sound fields well e f h = with_place (ended fields well) e f (fields_both fields ((codes "ok", boolean well) ∷ []) h (field_sound (boolean_sound well) no_fields))
+-- it says whether it has an error
+pub says_ok : {place : List Field} {j : Json} {well : Bool} → IsDocument place j well → SaysOk j well
+says_ok {place} {well = well} h = subst (λ j. SaysOk j well) (sym h.is) (place ++ h.fields, ap object_of (sym (append_assoc place h.fields ((codes "ok", boolean well) ∷ []))))
+
+-- documents from a place, and whether none has an error
+abbrev pub AreDocuments : List Field → List Json → Bool → Type 0
+AreDocuments place js whole = SayOk js whole × AllByRecursion (λ j. (well : Bool) × IsDocument place j well) js
+
+-- ---- members
+
+module _ {d : ℕ} where
+  message_error_sound : (error : MessageError) → AreSound (above 2 d) (members_of (message_error error ∷ []))
+  message_error_sound error = field_sound (error_sound (Some (offset_of error)) (reason_text error)) no_fields
+
+  message_sound : (m : Message) → AreSound (above 2 d) (members_of (message_fields m))
+  message_sound m =
+      field_sound (number_sound (16 + length m.payload.now))
+      (field_sound (named_sound m.kind _) (field_sound (flags_sound (flags_of m.kind) m.flags) (field_sound (number_sound m.sequence) (field_sound (number_sound m.port) no_fields))))
+
+  reply_sound : (a : Acknowledgement) (j : Json) (well : Bool) → SaysReply a j well → IsSound (above 32 d) j
+  reply_sound a j well (js, shown, e) =
+      rw e (object_sound refl
+      (field_sound (object_sound refl (field_sound (signed_sound a.error) (field_sound (name_sound (errno_name a.error)) no_fields)))
+      (field_sound (array_sound (family_sound 0 families.Reply a.list.at a.list.bytes.now js well shown)) no_fields)))
+
+-- ---- documents
+
+module _ (place : List Field) where
+  whole : {j : Json} {well : Bool} (fields : List Field) → j ≡ whole_document place fields well → are_keyed (ended fields well) ≡ true → ((d : ℕ) → AreSound (above 32 d) (members_of fields)) → IsDocument place j well
+  whole {well = well} fields is e h = record { fields = fields; is = is; keyed = e; sound = λ d. fields_both fields _ (h d) (field_sound (boolean_sound well) no_fields) }
+
+  pub place_is : IsDocument place (place_document place) true
+  place_is = whole [] refl refl (λ d. no_fields)
+
+  pub fault_is : (at : Option ℕ) (text : List ℕ) → IsDocument place (fault_document place at text) false
+  fault_is at text =
+      let fault : List Field = (codes "error", object_of ((codes "at", at_json at) ∷ (codes "text", text_json text) ∷ [])) ∷ [] in
+      whole fault refl refl (λ d. field_sound (object_sound refl (field_sound (at_sound at) (field_sound (text_sound text) no_fields))) no_fields)
+
+  pub list_is : (family : Family) (bytes : List ℕ) (j : Json) (well : Bool) → ShowsListDocument place family bytes j well → IsDocument place j well
+  list_is family bytes j well (js, shown, e) =
+      let list : List Field = (codes "list", object_of ((codes "family", string (family_name family)) ∷ (codes "attrs", array_of js) ∷ [])) ∷ [] in
+      whole list e refl (λ d. field_sound (object_sound refl (field_sound (string_sound _) (field_sound (array_sound (family_sound 0 family 0 bytes js well shown)) no_fields))) no_fields)
+
+  check_by : (family : Family) (at : Option ℕ) (j : Json) (well : Bool) → j ≡ check_document place family at → well ≡ not (is_some at) → IsDocument place j well
+  check_by family at j well e w =
+      let canonical = not (is_some at) in
+      let check : List Field = (codes "check", object_of ((codes "family", string (family_name family)) ∷ (codes "canonical", boolean canonical) ∷ (codes "at", at_json at) ∷ [])) ∷ [] in
+      rw w (whole check e refl (λ d. field_sound (object_sound refl (field_sound (string_sound _) (field_sound (boolean_sound canonical) (field_sound (at_sound at) no_fields)))) no_fields))
+
+  pub check_is : (family : Family) (bytes : List ℕ) (j : Json) (well : Bool) → ShowsCheck place family bytes j well → IsDocument place j well
+  check_is family bytes j well (IsCanonical t e w) = check_by family None j well e w
+  check_is family bytes j well (IsNot at t e w) = check_by family (Some at) j well e w
+
+  -- ---- messages
 
   -- the document of a message that says this
-  says : (m : Message) (well : Bool) (body : List Field) → are_among document_keys (keys (members_of (ended (message_fields m ++ body) well))) ≡ true
-      → are_distinct (keys (members_of (ended (message_fields m ++ body) well))) ≡ true → AreSound K (above 32 d) body → IsSound K (above 33 d) (whole_document place (message_fields m ++ body) well)
-  says m well body e f g = whole_sound (message_fields m ++ body) well e f (fields_both (message_fields m) body (message_sound m) g)
+  says : (m : Message) {j : Json} {body other : List Field} {well : Bool} → j ≡ whole_document place (message_fields m ++ body) well → body ≡ other → are_keyed (ended (message_fields m ++ other) well) ≡ true
+      → ((d : ℕ) → AreSound (above 32 d) (members_of other)) → IsDocument place j well
+  says m {other = other} {well = well} is e f h =
+      whole (message_fields m ++ other) (is ∙ ap (λ body. whole_document place (message_fields m ++ body) well) e) f (λ d. fields_both (message_fields m) other (message_sound m) (h d))
 
-  -- a document by its body
-  same : (m : Message) (well : Bool) (a b : List Field) → b ≡ a → IsSound K (above 33 d) (whole_document place (message_fields m ++ a) well) → IsSound K (above 33 d) (whole_document place (message_fields m ++ b) well)
-  same m well a b e h = subst (λ body. IsSound K (above 33 d) (whole_document place (message_fields m ++ body) well)) (sym e) h
+  told : (m : Message) (j : Json) (body : List Field) (well said : Bool) (a : Acknowledgement) → j ≡ whole_document place (message_fields m ++ body) well → shows_said said a body well → IsDocument place j well
+  told m j body well true a is (reply, shown, e) = says m is e refl (λ d. field_sound (reply_sound a reply well shown) no_fields)
+  told m j body well false a is (e, w) = says m is e refl (λ d. no_fields)
 
-  failed : (m : Message) (body : List Field) (well : Bool) (error : MessageError) → body ≡ message_error error ∷ [] → IsSound K (above 33 d) (whole_document place (message_fields m ++ body) well)
-  failed m body well error e = same m well (message_error error ∷ []) body e (says m well (message_error error ∷ []) refl refl (message_error_sound error))
+  body_is : (m : Message) (j : Json) (body : List Field) (well : Bool) → j ≡ whole_document place (message_fields m ++ body) well → ShowsBody m body well → IsDocument place j well
+  body_is m j body well is (Link header g has link shown e) = says m is e refl (λ d. field_sound (link_sound header _ link well shown) no_fields)
+  body_is m j body well is (Reply a t shown) = told m j body well (says_something a) a is shown
+  body_is m j body well is (General g e w) = says m is e refl (λ d. no_fields)
+  body_is m j body well is (NoLink error t g h e w) = says m is e refl (λ d. message_error_sound error)
+  body_is m j body well is (NoReply error t h e w) = says m is e refl (λ d. message_error_sound error)
+  body_is m j body well is (Other t l e w) = says m is e refl (λ d. no_fields)
 
-  told : (m : Message) (body : List Field) (well said : Bool) (a : Acknowledgement) → shows_said said a body well → IsSound K (above 33 d) (whole_document place (message_fields m ++ body) well)
-  told m body well true a (j, shown, e) =
-      let sound : IsSound K (above 32 d) j = reply_sound a j well shown in
-      same m well ((codes "reply", j) ∷ []) body e (says m well ((codes "reply", j) ∷ []) refl refl (field_sound sound no_fields))
-  told m body well false a (e, w) = same m well [] body e (says m well [] refl refl no_fields)
+  one_is : {j : Json} {js : List Json} {well : Bool} → js ≡ j ∷ [] → IsDocument place j well → AreDocuments place js well
+  one_is {j} {js} {well} e h = rw e (one_says j well (says_ok h), ((well, h), tt))
 
-  body_sound : (m : Message) (body : List Field) (well : Bool) → ShowsBody m body well → IsSound K (above 33 d) (whole_document place (message_fields m ++ body) well)
-  body_sound m body well (Link header g has link shown e) =
-      let sound : IsSound K (above 32 d) link = link_sound header _ link well shown in
-      same m well ((codes "link", link) ∷ []) body e (says m well ((codes "link", link) ∷ []) refl refl (field_sound sound no_fields))
-  body_sound m body well (Reply a is shown) = told m body well (says_something a) a shown
-  body_sound m body well (General g e w) = same m well [] body e (says m well [] refl refl no_fields)
-  body_sound m body well (NoLink error t g is e w) = failed m body well error e
-  body_sound m body well (NoReply error t is e w) = failed m body well error e
-  body_sound m body well (Other t l e w) = same m well [] body e (says m well [] refl refl no_fields)
+  message_is : (m : Message) (js : List Json) (well : Bool) → ShowsMessage place m js well → AreDocuments place js well
+  message_is m js well (j, (body, shown, is), e) = one_is e (body_is m j body well is shown)
 
-  one_message : (m : Message) (js : List Json) (well : Bool) → ShowsMessage place m js well → EachSound K (above 33 d) js
-  one_message m js well (j, (body, shown, is), e) = one_sound j js e (subst (IsSound K (above 33 d)) (sym is) (body_sound m body well shown))
+  end_is : (s : List ℕ) (at : ℕ) (js : List Json) (well : Bool) → ShowsEnd place s at js well → AreDocuments place js well
+  end_is s at js well (Ended t l e w) = rw e (w, tt)
+  end_is s at js well (Empty t l e w) = one_is e (rw w place_is)
+  end_is s at js well (Done m is t shown) = message_is m js well shown
+  end_is s at js well (Zeros t error l z e w) = rw e (w, tt)
+  end_is s at js well (Broken t error l z e w) = one_is e (rw w (whole (message_error error ∷ []) refl refl (λ d. message_error_sound error)))
 
-  plain_sound : (well : Bool) → IsSound K (above 33 d) (whole_document place [] well)
-  plain_sound well = whole_sound [] well refl refl no_fields
+  both_are : (a b : List Json) (v w : Bool) → AreDocuments place a v → AreDocuments place b w → AreDocuments place (a ++ b) (v && w)
+  both_are a b v w h k = (and_say a b v w h.0 k.0, all_append _ a b h.1 k.1)
 
-  none_sound : (js : List Json) → js ≡ [] → EachSound K (above 33 d) js
-  none_sound js e = subst (EachSound K (above 33 d)) (sym e) no_items
+  pub messages_are : (s : List ℕ) (js : List Json) (whole : Bool) → ShowsMessages place s js whole → AreDocuments place js whole
+  messages_are s js whole h =
+      let front = each_hold (λ m. Unit {0}) (ShowsMessage place) (AreDocuments place) (refl, tt) both_are (λ m js well t shown. message_is m js well shown) h.messages h.front h.front_well (all_any h.messages) h.each in
+      rw (h.joined, h.all) (both_are h.front h.last h.front_well h.last_well front (end_is s h.end h.last h.last_well h.at_end))
 
-  end_sound : (s : List ℕ) (at : ℕ) (js : List Json) (well : Bool) → ShowsEnd place s at js well → EachSound K (above 33 d) js
-  end_sound s at js well (Ended t l e w) = none_sound js e
-  end_sound s at js well (Empty t l e w) = one_sound _ js e (plain_sound true)
-  end_sound s at js well (Done m is t shown) = one_message m js well shown
-  end_sound s at js well (Zeros t error l z e w) = none_sound js e
-  end_sound s at js well (Broken t error l z e w) = one_sound _ js e (whole_sound (message_error error ∷ []) false refl refl (message_error_sound error))
+-- ---- with the members of the place
 
-  messages_sound : (s : List ℕ) (js : List Json) (whole : Bool) → ShowsMessages place s js whole → EachSound K (above 33 d) js
-  messages_sound s js whole shown =
-      subst (EachSound K (above 33 d)) (sym shown.joined)
-      (each_both shown.front shown.last (shown_sound (ShowsMessage place) one_message shown.messages shown.front shown.front_well shown.each) (end_sound s shown.end shown.last shown.last_well shown.at_end))
+-- members behind others that nest at most d deep
+behind : (place fields : List Field) (d : ℕ) → members_depth (members_of place) ≤ d → AreSound d (members_of fields)
+    → (members_depth (members_of (place ++ fields)) ≤ d) × (MembersHaveNumbers (members_of place) → MembersHaveUniqueKeys (members_of place) → MembersHaveNumbers (members_of (place ++ fields)) × MembersHaveUniqueKeys (members_of (place ++ fields)))
+behind [] fields d more h = let facts = fields_facts h in (facts.2, λ n u. (facts.0, facts.1))
+behind (x ∷ place) fields d more h =
+    let rest = behind place fields d (omega (arith, more)) h in
+    (omega (arith, more, rest.0), λ n u. let both = rest.1 n.1 u.1 in ((n.0, both.0), (u.0, both.1)))
 
-  -- ---- other documents
+-- a document is a line
+pub line : {place : List Field} {j : Json} {well : Bool} → IsPlace place → IsDocument place j well → IsLine j
+line {place} {j} {well} is h =
+    let all = behind place (ended h.fields well) 127 is.shallow (h.sound 95) in
+    let good = all.1 is.numbers is.unique in
+    let whole = whole_document place h.fields well in
+    subst IsLine (sym h.is)
+    (record { reads_back = document-print whole good.0 (omega (arith, all.0)); unbroken = text_unbroken whole good.0; unique = (distinct_members place (ended h.fields well) is.distinct h.keyed, good.1) })
 
-  fault_sound : (at : Option ℕ) (text : List ℕ) → IsSound K (above 33 d) (fault_document place at text)
-  fault_sound at text =
-      let error : List Field = (codes "at", at_json at) ∷ (codes "text", text_json text) ∷ [] in
-      whole_sound ((codes "error", object_of error) ∷ []) false refl refl (field_sound (object_sound error refl (field_sound (at_sound at) (field_sound (text_sound text) no_fields))) no_fields)
-
-  list_sound : (family : Family) (bytes : List ℕ) (j : Json) (well : Bool) → ShowsListDocument place family bytes j well → IsSound K (above 33 d) j
-  list_sound family bytes j well (js, shown, e) =
-      let list : List Field = (codes "family", string (family_name family)) ∷ (codes "attrs", array_of js) ∷ [] in
-      let each : EachSound K (above 30 d) js = family_sound 0 family 0 bytes js well shown in
-      subst (IsSound K (above 33 d)) (sym e)
-      (whole_sound ((codes "list", object_of list) ∷ []) well refl refl (field_sound (object_sound list refl (field_sound (string_sound _) (field_sound (array_sound js each) no_fields))) no_fields))
-
-  check_sound : (family : Family) (at : Option ℕ) → IsSound K (above 33 d) (check_document place family at)
-  check_sound family at =
-      let canonical = not (is_some at) in
-      let check : List Field = (codes "family", string (family_name family)) ∷ (codes "canonical", boolean canonical) ∷ (codes "at", at_json at) ∷ [] in
-      whole_sound ((codes "check", object_of check) ∷ []) canonical refl refl (field_sound (object_sound check refl (field_sound (string_sound _) (field_sound (boolean_sound canonical) (field_sound (at_sound at) no_fields)))) no_fields)
-
-  check_shown : (family : Family) (bytes : List ℕ) (j : Json) (well : Bool) → ShowsCheck place family bytes j well → IsSound K (above 33 d) j
-  check_shown family bytes j well (IsCanonical t e w) = subst (IsSound K (above 33 d)) (sym e) (check_sound family None)
-  check_shown family bytes j well (IsNot at t e w) = subst (IsSound K (above 33 d)) (sym e) (check_sound family (Some at))
-
--- ---- documents from a place
-
-module _ (place : List Field) (is : IsPlace place) where
-  pub messages_are_lines : (s : List ℕ) (js : List Json) (whole : Bool) → ShowsMessages place s js whole → AllByRecursion IsLine js
-  messages_are_lines s js whole shown = each_line js (messages_sound {d = 95} place (λ k. is) is.shallow s js whole shown)
-
-  pub line_of_place : IsLine (place_document place)
-  line_of_place = line (place_document place) (plain_sound {d = 95} place (λ k. is) is.shallow true)
-
-  pub line_of_fault : (at : Option ℕ) (text : List ℕ) → IsLine (fault_document place at text)
-  line_of_fault at text = line (fault_document place at text) (fault_sound {d = 95} place (λ k. is) is.shallow at text)
-
-  pub line_of_list : (family : Family) (bytes : List ℕ) (j : Json) (well : Bool) → ShowsListDocument place family bytes j well → IsLine j
-  line_of_list family bytes j well shown = line j (list_sound {d = 95} place (λ k. is) is.shallow family bytes j well shown)
-
-  pub line_of_check : (family : Family) (bytes : List ℕ) (j : Json) (well : Bool) → ShowsCheck place family bytes j well → IsLine j
-  line_of_check family bytes j well shown = line j (check_shown {d = 95} place (λ k. is) is.shallow family bytes j well shown)
-
--- ---- how deep documents nest, with any members of a place
+pub each_line : {place : List Field} → IsPlace place → (js : List Json) → AllByRecursion (λ j. (well : Bool) × IsDocument place j well) js → AllByRecursion IsLine js
+each_line {place} is = all_each (λ j. (well : Bool) × IsDocument place j well) IsLine (λ j d. line is d.1)
 
 module _ (place : List Field) (d : ℕ) (more : 32 ≤ d) (placed : members_depth (members_of place) ≤ d) where
-  within : members_depth (members_of place) ≤ above 32 (d - 32)
-  within = omega (arith, more, placed)
+  pub shallow : {j : Json} {well : Bool} → IsDocument place j well → depth j ≤ d + 1
+  shallow {j} {well} h =
+      let all = behind place (ended h.fields well) (above 32 (d - 32)) (omega (arith, more, placed)) (h.sound (d - 32)) in
+      subst (λ x. depth x ≤ d + 1) (sym h.is) (omega (arith, more, all.0))
 
-  pub messages_in : (s : List ℕ) (js : List Json) (whole : Bool) → ShowsMessages place s js whole → items_depth (items_of js) ≤ d + 1
-  messages_in s js whole shown = let h = messages_sound {K = ⊥} place (λ k. absurd k) within s js whole shown in omega (arith, more, h.shallow)
-
-  pub fault_in : (at : Option ℕ) (text : List ℕ) → depth (fault_document place at text) ≤ d + 1
-  fault_in at text = let h = fault_sound {K = ⊥} place (λ k. absurd k) within at text in omega (arith, more, h.shallow)
-
-  pub list_document_in : (family : Family) (bytes : List ℕ) (j : Json) (well : Bool) → ShowsListDocument place family bytes j well → depth j ≤ d + 1
-  list_document_in family bytes j well shown = let h = list_sound {K = ⊥} place (λ k. absurd k) within family bytes j well shown in omega (arith, more, h.shallow)
-
-  pub check_in : (family : Family) (bytes : List ℕ) (j : Json) (well : Bool) → ShowsCheck place family bytes j well → depth j ≤ d + 1
-  check_in family bytes j well shown = let h = check_shown {K = ⊥} place (λ k. absurd k) within family bytes j well shown in omega (arith, more, h.shallow)
+  pub shallow_each : (js : List Json) → AllByRecursion (λ j. (well : Bool) × IsDocument place j well) js → items_depth (items_of js) ≤ d + 1
+  shallow_each [] h = omega arith
+  shallow_each (j ∷ js) h = omega (arith, shallow h.0.1, shallow_each js h.1)

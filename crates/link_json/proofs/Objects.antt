@@ -1,5 +1,5 @@
 -- Objects and arrays that were written in parts.
-use Rattle.std.proofs.Common.{◌≡◌, ℕ, Bool, List, [], ◌∷◌, ◌++◌, Result, OnOk, refl, ap, sym, ◌∙◌, append_assoc, codes}
+use Rattle.std.proofs.Common.{◌≡◌, ℕ, Bool, List, [], ◌∷◌, ◌++◌, Result, OnOk, sym, append_assoc, codes}
 use Rattle.std.proofs.lemmas.List.{append-nil}
 use Rattle.json.specs.Token.{Token, begin_object, end_object, begin_array, end_array, key}
 use Rattle.json.specs.Json.{Json, boolean}
@@ -12,12 +12,10 @@ use Rattle.link_json.proofs.Tokens.{members_spelled, items_spelled, fields_both}
 -- a member, and more of them
 pub field_then : (old a b new : List Token) (k : List ℕ) (j : Json) (fields : List Field) → a ≡ old ++ key k ∷ [] → b ≡ a ++ json_tokens j → new ≡ b ++ fields_tokens fields
     → new ≡ old ++ fields_tokens ((k, j) ∷ fields)
-field_then old a b new k j fields p q r =
-    r ∙ ap (λ t. t ++ fields_tokens fields) (q ∙ ap (λ t. t ++ json_tokens j) p) ∙ append_assoc (old ++ key k ∷ []) (json_tokens j) (fields_tokens fields)
-    ∙ append_assoc old (key k ∷ []) (json_tokens j ++ fields_tokens fields)
+field_then old a b new k j fields p q r = rw (r, q, p) (simp append_assoc)
 
 pub fields_then : (old mid new : List Token) (a b : List Field) → mid ≡ old ++ fields_tokens a → new ≡ mid ++ fields_tokens b → new ≡ old ++ fields_tokens (a ++ b)
-fields_then old mid new a b p q = q ∙ ap (λ t. t ++ fields_tokens b) p ∙ append_assoc old (fields_tokens a) (fields_tokens b) ∙ ap (λ t. old ++ t) (sym (fields_both a b))
+fields_then old mid new a b p q = rw (q, p) (simp (fields_both a b, append_assoc))
 
 -- no member
 pub no_field : (t : List Token) → t ≡ t ++ fields_tokens []
@@ -29,9 +27,7 @@ field_only old a new k j p q = field_then old a new new k j [] p q (no_field new
 
 -- an object
 pub object_written : (old a b new : List Token) (fields : List Field) → a ≡ old ++ begin_object ∷ [] → b ≡ a ++ fields_tokens fields → new ≡ b ++ end_object ∷ [] → new ≡ old ++ json_tokens (object_of fields)
-object_written old a b new fields p q r =
-    r ∙ ap (λ t. t ++ end_object ∷ []) (q ∙ ap (λ t. t ++ fields_tokens fields) p) ∙ append_assoc (old ++ begin_object ∷ []) (fields_tokens fields) (end_object ∷ [])
-    ∙ append_assoc old (begin_object ∷ []) (fields_tokens fields ++ end_object ∷ []) ∙ ap (λ t. old ++ begin_object ∷ t) (sym (members_spelled fields))
+object_written old a b new fields p q r = rw (r, q, p) (simp (members_spelled fields, append_assoc))
 
 pub object_then : {X E : Type 0} (r : Result X E) (old a b new : List Token) (fields : List Field) → a ≡ old ++ begin_object ∷ [] → b ≡ a ++ fields_tokens fields → OnOk r (new ≡ b ++ end_object ∷ [])
     → OnOk r (new ≡ old ++ json_tokens (object_of fields))
@@ -39,14 +35,9 @@ object_then r old a b new fields p q h = on_ok r (object_written old a b new fie
 
 -- an array
 pub array_written : (old a b new : List Token) (js : List Json) → a ≡ old ++ begin_array ∷ [] → b ≡ a ++ each_tokens js → new ≡ b ++ end_array ∷ [] → new ≡ old ++ json_tokens (array_of js)
-array_written old a b new js p q r =
-    r ∙ ap (λ t. t ++ end_array ∷ []) (q ∙ ap (λ t. t ++ each_tokens js) p) ∙ append_assoc (old ++ begin_array ∷ []) (each_tokens js) (end_array ∷ [])
-    ∙ append_assoc old (begin_array ∷ []) (each_tokens js ++ end_array ∷ []) ∙ ap (λ t. old ++ begin_array ∷ t) (sym (items_spelled js))
+array_written old a b new js p q r = rw (r, q, p) (simp (items_spelled js, append_assoc))
 
 -- a document: where it is from, what it says, and the end
 pub document_written : (old a b c new : List Token) (place fields : List Field) (well : Bool) → a ≡ old ++ begin_object ∷ [] → b ≡ a ++ fields_tokens place → c ≡ b ++ fields_tokens fields
     → new ≡ c ++ (fields_tokens ((codes "ok", boolean well) ∷ []) ++ end_object ∷ []) → new ≡ old ++ json_tokens (whole_document place fields well)
-document_written old a b c new place fields well p q r s =
-    let ok = (codes "ok", boolean well) ∷ [] in
-    let all = fields_then a b (c ++ fields_tokens ok) place (fields ++ ok) q (fields_then b c (c ++ fields_tokens ok) fields ok r refl) in
-    object_written old a (c ++ fields_tokens ok) new (place ++ (fields ++ ok)) p all (s ∙ sym (append_assoc c (fields_tokens ok) (end_object ∷ [])))
+document_written old a b c new place fields well p q r s = rw (s, r, q, p) (simp (members_spelled (place ++ (fields ++ (codes "ok", boolean well) ∷ [])), fields_both, append_assoc))

@@ -1,15 +1,16 @@
 //! Messages, and buffers of them: a document for each.
 
-ghost use Rattle.std.specs.Prelude.{◌≡◌, ◌≤◌, ◌++◌, ◌∷◌, [], true, drop, Some, Err, OnOk, IfOk, IfErr};
+ghost use Rattle.std.specs.Prelude.{◌≡◌, ◌≤◌, ◌++◌, ◌∷◌, [], drop, Some, Err, OnOk, IfOk, IfErr};
 ghost use Rattle.std.specs.Io.KnownBytes.{Appends, Keeps};
 ghost use Rattle.json.specs.Json.{Json, document};
 ghost use Rattle.json.specs.Print.{print};
 ghost use Rattle.json.specs.Tree.{json_tokens, depth};
 ghost use Rattle.link_messages.specs.Message.{NextOfAny};
 ghost use Rattle.link_json.specs.declared.messages.Failure.TheVariants.{Writer};
-ghost use Rattle.link_json.specs.Message.{ShowsMessages, ShowsEnd, ShowsMessage, WritesLines, AddsLines, OnMemory, whole_document, document_line};
+ghost use Rattle.link_json.specs.Message.{ShowsMessages, ShowsEnd, ShowsMessage, WritesLines, AddsLines, OnMemory};
 
-use crate::documents::{store_empty, store_error, store_message};
+use crate::documents::{store_error, store_message};
+use crate::others::write_place;
 use crate::place::Place;
 use crate::sheet::Sheet;
 use link_messages::message_types::NLMSG_DONE;
@@ -52,7 +53,7 @@ pub fn write_documents<P: Place, W: Write>(
             Ok(Some(message)) => message,
             Ok(None) => {
                 if at == 0 {
-                    write_empty(alloc, sheet, place, writer)?;
+                    write_place(alloc, sheet, place, writer)?;
                 }
                 return Ok(whole);
             }
@@ -67,24 +68,6 @@ pub fn write_documents<P: Place, W: Write>(
             return Ok(whole);
         }
         at = message.next;
-    }
-}
-
-/// Writes the document for a buffer without a message.
-fn write_empty<P: Place, W: Write>(
-    alloc: Global,
-    sheet: &mut Sheet,
-    place: &P,
-    writer: &mut W,
-) -> Result<(), Failure>
-    ensures shown { OnOk result (Appends (W.contents writer.old) (W.contents writer.new)
-        (document_line (whole_document (P.fields place.now) [] true))) }
-    ensures memory { OnMemory result (Keeps (W.contents writer.old) (W.contents writer.new)) }
-{
-    sheet.clear(alloc);
-    match store_empty(sheet, place) {
-        Ok(()) => print_document(alloc, sheet, writer),
-        Err(_) => Err(Failure::Memory),
     }
 }
 

@@ -1,10 +1,9 @@
 -- The members that say where documents are from are those of a place.
-use Rattle.std.proofs.Common.{◌/◌, ◌%◌, ℕ, suc, List, [], ◌∷◌, length, Option, Some, None, refl, sym, subst, codes}
-use Rattle.json.specs.Json.{Json, string}
+use Rattle.std.proofs.Common.{◌/◌, ◌%◌, ℕ, suc, List, [], length, Option, Some, None, refl, sym, subst}
+use Rattle.json.specs.Json.{Json}
 use Rattle.link_base.specs.Labels.{name_in}
 use Rattle.link_capture.specs.declared.event.Time.{Time}
 use Rattle.link_capture.specs.Told.{Captured}
-use Rattle.link_json.specs.Doc.{Field, number_json}
 use Rattle.link_json.specs.Line.{IsPlace}
 use Rattle.link_json.proofs.Places.{place}
 use Rattle.link_json.proofs.Sound.{IsSound, no_fields, field_sound, object_sound, string_sound, null_sound, number_sound, named_sound}
@@ -15,14 +14,12 @@ use Rattle.show_json.specs.Place.{file_fields, line_fields, time_fields, packet_
 
 -- a value of such a member that nests at most n deep
 abbrev IsFit : ℕ → Json → Type 0
-IsFit n j = IsSound (Unit {0}) n j
+IsFit n j = IsSound n j
 
 -- ---- instants
 
 instant_fit : {d : ℕ} (utc : List ℕ) (second nanosecond : ℕ) → IsFit (suc d) (instant_json utc second nanosecond)
-instant_fit utc second nanosecond =
-    let fields : List Field = (codes "utc", string utc) ∷ (codes "sec", number_json second) ∷ (codes "nsec", number_json nanosecond) ∷ [] in
-    object_sound fields refl (field_sound (string_sound utc) (field_sound (number_sound second) (field_sound (number_sound nanosecond) no_fields)))
+instant_fit utc second nanosecond = object_sound refl (field_sound (string_sound utc) (field_sound (number_sound second) (field_sound (number_sound nanosecond) no_fields)))
 
 clock_fit : {d : ℕ} (time : Time) (clock : Json) → ShowsClock time clock → IsFit (suc d) clock
 clock_fit {d} time clock (InRange n is has utc text e) = subst (IsFit (suc d)) (sym e) (instant_fit utc (n / 1_000_000_000) (n % 1_000_000_000))
@@ -38,14 +35,7 @@ protocol_fit (Some n) = named_sound n (name_in protocols n)
 
 packet_fit : {d : ℕ} (number : ℕ) (clock : Json) (p : Captured) → IsFit (suc d) clock → IsFit (suc (suc d)) (packet_json number clock p)
 packet_fit number clock p c =
-    let fields : List Field =
-    (codes "number", number_json number) ∷
-    (codes "time", clock) ∷
-    (codes "len", number_json (length p.bytes)) ∷
-    (codes "original_len", number_json p.original) ∷
-    (codes "link_type", number_json p.link_type) ∷
-    (codes "protocol", protocol_json (protocol_in p)) ∷ [] in
-    object_sound fields refl
+    object_sound refl
     (field_sound (number_sound number)
     (field_sound c
     (field_sound (number_sound (length p.bytes)) (field_sound (number_sound p.original) (field_sound (number_sound p.link_type) (field_sound (protocol_fit (protocol_in p)) no_fields))))))

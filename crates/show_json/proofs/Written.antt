@@ -9,12 +9,12 @@ use Rattle.link_capture.specs.ErrorText.{bytes_text, error_text}
 use Rattle.link_capture.specs.OtherFormat.{format_text}
 use Rattle.link_capture.specs.Told.{Captured}
 use Rattle.link_json.specs.Doc.{Field}
-use Rattle.link_json.specs.Line.{IsLine, IsPlace}
+use Rattle.link_json.specs.Line.{IsPlace}
 use Rattle.link_json.specs.Message.{document_line}
-use Rattle.link_json.specs.Ok.{SaysOk}
-use Rattle.link_json.specs.Other.{place_document, fault_document, ShowsListDocument, ShowsCheck}
-use Rattle.link_json.proofs.Lines.{messages_are_lines, line_of_place, line_of_fault, line_of_list, line_of_check}
-use Rattle.link_json.proofs.Oks.{one_says, messages_say, document_says, fault_says, list_says, check_says}
+use Rattle.link_json.specs.Other.{place_document, ShowsListDocument, ShowsCheck}
+use Rattle.link_json.proofs.Lines as documents
+use Rattle.link_json.proofs.Lines.{IsDocument, says_ok, line, each_line}
+use Rattle.link_json.proofs.Oks.{one_says}
 use Rattle.show_captures.specs.Packet.{Other, Short, OtherProtocol, Route}
 use Rattle.show_lines.specs.declared.asking.Asked.{Asked}
 use Rattle.show_lines.specs.declared.asking.Asked.TheVariants.{Messages, Attributes, Verdict}
@@ -28,29 +28,31 @@ use Rattle.show_json.proofs.Sources.{file_place, line_place, time_place, packet_
 -- ---- documents from a place
 
 -- one document
-one : (j : Json) (well : Bool) → IsLine j → SaysOk j well → AreDocuments (document_line j) well
-one j well h says = record { documents = j ∷ []; each = (h, tt); oks = one_says j well says; joined = sym (append-nil (document_line j)) }
+one : {place : List Field} {j : Json} {well : Bool} → IsPlace place → IsDocument place j well → AreDocuments (document_line j) well
+one {j = j} {well = well} is h = record { documents = j ∷ []; each = (line is h, tt); oks = one_says j well (says_ok h); joined = sym (append-nil (document_line j)) }
 
-one_shown : (shows : Json → Bool → Type 0) (out : List ℕ) (well : Bool) → ((j : Json) → shows j well → IsLine j) → ((j : Json) → shows j well → SaysOk j well) → ShowsOne shows out well
+one_shown : (place : List Field) (shows : Json → Bool → Type 0) (out : List ℕ) (well : Bool) → IsPlace place → ((j : Json) → shows j well → IsDocument place j well) → ShowsOne shows out well
     → AreDocuments out well
-one_shown shows out well lines says (j, shown, is) = subst (λ o. AreDocuments o well) (sym is) (one j well (lines j shown) (says j shown))
+one_shown place shows out well is document (j, shown, e) = subst (λ o. AreDocuments o well) (sym e) (one is (document j shown))
 
 module _ (place : List Field) (is : IsPlace place) where
   place_is : AreDocuments (document_line (place_document place)) true
-  place_is = one (place_document place) true (line_of_place place is) (document_says place [] true)
+  place_is = one is (documents.place_is place)
 
   fault_is : (at : Option ℕ) (text : List ℕ) → AreDocuments (fault_line place at text) false
-  fault_is at text = one (fault_document place at text) false (line_of_fault place is at text) (fault_says place at text)
+  fault_is at text = one is (documents.fault_is place at text)
 
   messages_are : (bytes out : List ℕ) (well : Bool) → ShowsDocuments place bytes out well → AreDocuments out well
-  messages_are bytes out well (js, shown, e) = record { documents = js; each = messages_are_lines place is bytes js well shown; oks = messages_say place bytes js well shown; joined = e }
+  messages_are bytes out well (js, shown, e) =
+      let each = documents.messages_are place bytes js well shown in
+      record { documents = js; each = each_line is js each.1; oks = each.0; joined = e }
 
   asked_are : (asked : Asked) (bytes out : List ℕ) (well : Bool) → ShowsAsked place asked bytes out well → AreDocuments out well
   asked_are Messages bytes out well shown = messages_are bytes out well shown
   asked_are (Attributes family) bytes out well shown =
-      one_shown (ShowsListDocument place family bytes) out well (λ j s. line_of_list place is family bytes j well s) (λ j s. list_says place family bytes j well s) shown
+      one_shown place (ShowsListDocument place family bytes) out well is (λ j s. documents.list_is place family bytes j well s) shown
   asked_are (Verdict family) bytes out well shown =
-      one_shown (ShowsCheck place family bytes) out well (λ j s. line_of_check place is family bytes j well s) (λ j s. check_says place family bytes j well s) shown
+      one_shown place (ShowsCheck place family bytes) out well is (λ j s. documents.check_is place family bytes j well s) shown
 
   -- the output is that of the place, and the input has no error
   place_shown : (out : List ℕ) (well : Bool) → out ≡ document_line (place_document place) → well ≡ true → AreDocuments out well

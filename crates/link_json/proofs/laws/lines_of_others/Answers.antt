@@ -1,14 +1,16 @@
-use Rattle.link_json.proofs.Lines.{line_of_place, line_of_fault, line_of_list, line_of_check}
+use Rattle.link_json.proofs.Lines.{line, place_is, fault_is, list_is, check_is}
 use Rattle.link_json.proofs.laws.lines_of_others.Goals as goal
 
 pub returns-clause-places : goal.returns-clause-places
-returns-clause-places c = line_of_place
+returns-clause-places c place is = line is (place_is place)
 
 pub returns-clause-faults : goal.returns-clause-faults
-returns-clause-faults c = line_of_fault
+returns-clause-faults c place is at text = line is (fault_is place at text)
 
 pub returns-clause-lists : goal.returns-clause-lists
-returns-clause-lists c = line_of_list
+returns-clause-lists c place is family bytes j well shown =
+    line is (list_is place family bytes j well shown)
 
 pub returns-clause-checks : goal.returns-clause-checks
-returns-clause-checks c = line_of_check
+returns-clause-checks c place is family bytes j well shown =
+    line is (check_is place family bytes j well shown)

@@ -12,11 +12,11 @@ loop-message-init g c =
     let w = g.W.Write.contents c.args.writer.now in
     shown_none (ShowsMessage (g.P.Place.fields c.args.place.now)) (λ messages. Stand c.args.buffer.now 0 messages 0) w refl (Appends-nil w)
 
-pub returns-in_ok-write_empty-in-Ok-None-clause-shown : goal.returns-in_ok-write_empty-in-Ok-None-clause-shown
-returns-in_ok-write_empty-in-Ok-None-clause-shown g c =
+pub returns-in_ok-write_place-in-Ok-None-clause-shown : goal.returns-in_ok-write_place-in-Ok-None-clause-shown
+returns-in_ok-write_place-in-Ok-None-clause-shown g c =
     let place = g.P.Place.fields c.args.place.now in
     messages_all prints_more c.args.buffer.now c.loop-message.at _ _ _ c.loop-message.whole c.loop-message.invariant (ShowsEnd place c.args.buffer.now)
-    (whole_document place [] true ∷ [], Empty (rw c.in-Ok-None.field-0-is at c.in-Ok-None.ensures) c.if-at-eq0.true refl refl, one_line _ _ (whole_document place [] true) c.in_ok-write_empty-in-Ok-None.ensures.shown)
+    (whole_document place [] true ∷ [], Empty (rw c.in-Ok-None.field-0-is at c.in-Ok-None.ensures) c.if-at-eq0.true refl refl, one_line _ _ (whole_document place [] true) c.in_ok-write_place-in-Ok-None.ensures.shown)
 
 pub returns-else-at-eq0-clause-shown : goal.returns-else-at-eq0-clause-shown
 returns-else-at-eq0-clause-shown g c =
