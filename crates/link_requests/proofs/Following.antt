@@ -1,5 +1,5 @@
 -- What follows a value.
-use Rattle.std.proofs.Common.{◌≡◌, ◌⊎◌, ℕ, ◌==◌, Bool, true, cond, List, [], Option, Some, None, Result, Ok, Err, inl, inr, refl, sym, ap, ap₂, ◌∙◌}
+use Rattle.std.proofs.Common.{◌≡◌, ◌⊎◌, ℕ, ◌==◌, Bool, true, false, cond, List, [], Option, Some, None, Result, Ok, Err, inl, inr, refl, sym, ap, ap₂, ◌∙◌}
 use Rattle.std.specs.Option.{option_map}
 use Rattle.std.proofs.lemmas.Bool.{cases_Bool}
 use Rattle.netlink_packet_route.specs.declared.family.Family.{Family}
@@ -12,10 +12,41 @@ use Rattle.link_entries.specs.Forms.{form_held}
 use Rattle.link_entries.proofs.WrittenLists.{if_held, no_bytes}
 use Rattle.link_requests.specs.declared.level.Scope.{Scope}
 use Rattle.link_requests.specs.declared.level.Scope.TheVariants.{Attributes}
+use Rattle.link_requests.specs.declared.misfit.ValueMisfit.{ValueMisfit}
 use Rattle.link_requests.specs.declared.misfit.ValueMisfit.TheVariants as misfits
 use Rattle.link_requests.specs.Opening.{Kinds}
 use Rattle.link_requests.specs.Spelling.{Spelling, alone, before, fitted, of_entry}
-use Rattle.link_requests.specs.Value.{inline, type_for, set_for, kind_for, allowed, value_bytes, announced, held_payload, bytes_payload, value_payload, is_above, scope_below, below_of, attribute_with}
+use Rattle.link_requests.specs.Value.{inline, type_for, set_for, is_held, kind_for, allowed, value_bytes, announced, held_payload, bytes_payload, value_payload, is_above, scope_below, below_of, attribute_with}
+
+-- ---- the set that reads a list in a value matters only if the value is a list of another set
+
+pub scope_passed : (scope : Scope) (reader : Option Family) (form : ℕ) (e : Entry) → scope_below scope reader (fields.Passed form None) e ≡ cond (form == form_held) (option_map Attributes reader) None
+scope_passed (Attributes set) reader form e = refl
+scope_passed scope reader form e = refl
+
+module _ (scope : Scope) (r s : Option Family) (e : Entry) where
+  scope_same : (own : Fields) → (is_held own ≡ true → r ≡ s) → scope_below scope r own e ≡ scope_below scope s own e
+  scope_same (fields.Passed form None) same = scope_passed scope r form e ∙ by (form == form_held) same ∙ sym (scope_passed scope s form e)
+    where
+      by : (b : Bool) → (b ≡ true → r ≡ s) → cond b (option_map Attributes r) None ≡ cond b (option_map Attributes s) None
+      by true h = ap (option_map Attributes) (h refl)
+      by false h = refl
+  scope_same own same = by_scope scope
+    where
+      by_scope : (sc : Scope) → scope_below sc r own e ≡ scope_below sc s own e
+      by_scope (Attributes set) = refl
+      by_scope sc = refl
+
+  payload_same : (own : Fields) (follow : Bool) (octets : List ℕ) → (is_held own ≡ true → r ≡ s) → value_payload scope r own follow e octets ≡ value_payload scope s own follow e octets
+  payload_same (fields.Passed form None) follow octets same = ap (λ p. cond (e.form == form) p (Err (misfits.Entry BadForm))) (by (form == form_held) same)
+    where
+      plain : Result (List ℕ) ValueMisfit
+      plain = allowed scope (kind_for scope e) (value_bytes e octets)
+
+      by : (b : Bool) → (b ≡ true → r ≡ s) → cond b (held_payload r follow e octets) plain ≡ cond b (held_payload s follow e octets) plain
+      by true h = ap (λ t. held_payload t follow e octets) (h refl)
+      by false h = refl
+  payload_same own follow octets same = refl
 
 -- ---- an attribute, from what was found of it
 
@@ -23,14 +54,13 @@ module _ (octets : List ℕ) (scope : Scope) (depth : ℕ) (x : Kinds) (i : ℕ)
   abbrev pub attribute_by : ℕ → Option Family → Bool → Spelling
   attribute_by f reader follow = fitted f (before (alone (value_payload scope reader own follow e octets)) (below_of depth (scope_below scope reader own e) inner es))
 
-  pub attribute_same : (f : ℕ) (reader : Option Family) (follow : Bool) → f ≡ type_for scope x.address_family i own e → reader ≡ set_for scope x f → follow ≡ is_above depth es → attribute_by f reader follow ≡ attribute_with octets scope depth x i own e es inner
-  attribute_same f reader follow a b c = ap₂ (attribute_by f) b c ∙ ap (λ k. attribute_by k (set_for scope x k) (is_above depth es)) a
+  pub attribute_same : (f : ℕ) (reader : Option Family) (follow : Bool) → f ≡ type_for scope x.address_family i own e → (is_held own ≡ true → reader ≡ set_for scope x f) → follow ≡ is_above depth es → attribute_by f reader follow ≡ attribute_with octets scope depth x i own e es inner
+  attribute_same f reader follow a b c =
+      let r = set_for scope x f in
+      let same = ap₂ (λ p sub. fitted f (before (alone p) (below_of depth sub inner es))) (payload_same scope reader r e own follow octets b) (scope_same scope reader r e own b) in
+      same ∙ ap (attribute_by f r) c ∙ ap (λ k. attribute_by k (set_for scope x k) (is_above depth es)) a
 
 -- ---- values follow
-
-pub scope_passed : (scope : Scope) (reader : Option Family) (form : ℕ) (e : Entry) → scope_below scope reader (fields.Passed form None) e ≡ cond (form == form_held) (option_map Attributes reader) None
-scope_passed (Attributes set) reader form e = refl
-scope_passed scope reader form e = refl
 
 pub entry_ok : (r : Result (List ℕ) Misfit) (p : List ℕ) → of_entry r ≡ Ok p → r ≡ Ok p
 entry_ok (Ok q) p h = cc

@@ -1,5 +1,5 @@
 -- The message in the bytes of a request.
-use Rattle.std.proofs.Common.{◌≡◌, ℕ, ◌+◌, ◌<◌, ◌^◌, false, cond, List, [], ◌++◌, length, take, Option, Some, None, Result, Ok, Err, inl, inr, ◌&&◌, pos, refl, sym, ap, subst, ◌∙◌, arith, Fits}
+use Rattle.std.proofs.Common.{◌≡◌, ℕ, ◌+◌, ◌<◌, ◌^◌, false, cond, List, [], ◌++◌, length, take, Option, Some, None, Result, Ok, Err, inl, inr, ◌&&◌, pos, refl, sym, ap, ◌∙◌, arith, Fits}
 use Rattle.std.specs.Prelude.{nat_lt, int_le}
 use Rattle.std.specs.Int.{w32, cast_unsigned, cast_signed}
 use Rattle.std.proofs.Math.Facts.{Fits-of_z}

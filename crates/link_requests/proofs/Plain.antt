@@ -1,5 +1,5 @@
 -- Values that refer to their bytes spell what `link_entries` writes for them.
-use Rattle.std.proofs.Common.{◌≡◌, ◌≢◌, ◌⊎◌, ℕ, ◌+◌, ◌-◌, ◌<◌, ◌≤◌, ◌%◌, ◌==◌, ◌&&◌, ◌||◌, Bool, true, false, cond, List, [], ◌∷◌, ◌++◌, length, Option, Some, None, Result, Ok, Err, inl, inr, refl, sym, ap, ap₂, subst, ◌∙◌, arith, option_map}
+use Rattle.std.proofs.Common.{◌≡◌, ◌≢◌, ◌⊎◌, ℕ, ◌+◌, ◌-◌, ◌%◌, ◌==◌, ◌&&◌, ◌||◌, Bool, true, false, cond, List, [], ◌∷◌, ◌++◌, length, Option, Some, None, Result, Ok, Err, inl, inr, refl, sym, ap, ap₂, subst, ◌∙◌, arith, option_map}
 use Rattle.std.specs.Prelude.{nat_lt, nat_le, take}
 use Rattle.std.specs.List.{AllByRecursion}
 use Rattle.std.proofs.lemmas.Bool.{cases_Bool, eqb-true, eqb-false, eq-eqb, ne_eqb, lt-ltb, ltb-true, ltb-false, le-ltb, le-leb}
@@ -28,8 +28,8 @@ use Rattle.link_requests.specs.declared.level.Scope.TheVariants.{Attributes, Ele
 use Rattle.link_requests.specs.declared.misfit.ValueMisfit.{ValueMisfit}
 use Rattle.link_requests.specs.declared.misfit.ValueMisfit.TheVariants as misfits
 use Rattle.link_requests.specs.Opening.{Kinds}
-use Rattle.link_requests.specs.Spelling.{Spelling, alone, before, fitted, of_entry}
-use Rattle.link_requests.specs.Value.{inline, is_protinfo, row_for, type_for, set_for, kind_for, is_allowed, allowed, value_bytes, announced, held_payload, bytes_payload, value_payload, is_above, begins_at, scope_below, inside_of, below_of, number_with, payload_with, attribute_with, value_with, value_by, value_of}
+use Rattle.link_requests.specs.Spelling.{Spelling, alone, before, of_entry}
+use Rattle.link_requests.specs.Value.{inline, is_protinfo, type_for, set_for, kind_for, is_allowed, allowed, value_bytes, announced, held_payload, bytes_payload, value_payload, is_above, begins_at, scope_below, inside_of, below_of, payload_with, attribute_with, value_by, value_of}
 use Rattle.link_requests.specs.Values.{kinds_in, values_of, inner_of}
 use Rattle.link_requests.specs.Law.{lowered, list_at, IsPlain}
 use Rattle.link_requests.proofs.Attributes.{before_ok, fitted_ok}

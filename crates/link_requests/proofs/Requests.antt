@@ -3,12 +3,12 @@ use borrow.Rule.Slice.PartMut.{put_mid}
 use Rattle.std.proofs.Common.{◌≡◌, ℕ, ◌+◌, ◌-◌, ◌<◌, ◌≤◌, ◌^◌, Bool, true, false, List, ◌++◌, length, take, drop, Option, Some, None, Result, Ok, Err, cond, bit_or, refl, sym, ap, ap₂, subst, ◌∙◌, arith, length-append}
 use Rattle.std.specs.Prelude.{nat_lt}
 use Rattle.std.proofs.lemmas.Bool.{lt-ltb, le-ltb, ltb-true}
-use Rattle.std.proofs.lemmas.List.{append-nil}
+use Rattle.std.proofs.lemmas.List.{append-nil, take_at}
 use Rattle.link_base.specs.Number.{bytes_of}
 use Rattle.link_base.specs.Answers.{capped}
 use Rattle.link_messages.specs.Message.{packet_bytes}
 use Rattle.link_entries.specs.declared.entry.Entry.{Entry}
-use Rattle.link_entries.specs.Stored.{StoresAt}
+use Rattle.link_entries.specs.Stored.{StoresAt, StoresBytes}
 use Rattle.link_entries.proofs.StoredBytes.{stored_then, stored_part}
 use Rattle.link_requests.specs.declared.head.Head.{Head}
 use Rattle.link_requests.specs.declared.misfit.ValueMisfit.{ValueMisfit}
@@ -92,6 +92,15 @@ module _ (head : Head) (octets : List ℕ) (es : List Entry) where
 
   pub is_written : (n : ℕ) → Ok n ≡ sized (request_of head octets es) → IsWritten n
   is_written n h = by_head n (head_error head) refl h
+
+  -- its attributes are at the start of a buffer in which they were stored, if there was room
+  pub in_front : (n : ℕ) (old new : List ℕ) → IsWritten n → StoresBytes spelling old new → n - 32 ≤ length new → spelling ≡ Ok (take (n - 32) new)
+  in_front n old new w put within =
+      let s = w.attributes in
+      let size : length s ≡ n - 32 = omega (arith, w.size) in
+      let stored : StoresAt 0 s old new = subst (λ r. StoresBytes {E = ℕ × ValueMisfit} r old new) w.spelled put in
+      let is = stored.stored (omega (arith, size, within, stored.same)) in
+      w.spelled ∙ ap Ok (sym (ap (take (n - 32)) is ∙ take_at s (drop (0 + length s) old) (n - 32) size))
 
   -- it was stored
   pub stored_request : (n : ℕ) (out one two sub new : List ℕ) → IsWritten n → n ≤ length out → StoresAt 0 (message_head head n) out one → StoresAt 16 (link_head head) one two

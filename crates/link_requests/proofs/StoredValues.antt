@@ -1,6 +1,7 @@
 -- What a function stored of values.
-use Rattle.std.proofs.Common.{◌≡◌, ℕ, ◌+◌, ◌≤◌, List, [], length, Result, Ok, Err, Bool, true, false, cond, nat_le, refl, sym, ap, subst, ◌∙◌, arith, take-append-drop}
+use Rattle.std.proofs.Common.{◌≡◌, ℕ, ◌+◌, ◌^◌, ◌<◌, ◌≤◌, List, [], length, take, Result, Ok, Err, Bool, true, false, cond, nat_le, refl, sym, ap, subst, ◌∙◌, arith, take-append-drop}
 use Rattle.std.proofs.lemmas.Bool.{le-leb}
+use Rattle.std.proofs.lemmas.List.{length-take-le}
 use Rattle.link_base.specs.Frame.{frame_bytes, pad, max_payload}
 use Rattle.link_base.specs.Wire.{whole}
 use Rattle.link_base.specs.Answers.{capped}
@@ -47,6 +48,10 @@ spells_err (Err e) old new at h = (ap back (sym h.0), h.1)
     back : Result ℕ ValueMisfitAt → Spelling
     back (Ok n) = Ok []
     back (Err m) = Err (m.index, m.misfit)
+
+-- a copy of what is at the start of a buffer
+pub spells_front : (s : Spelling) (front old new : List ℕ) (n : ℕ) → s ≡ Ok (take n front) → n ≤ length front → n < 2 ^ 64 → StoresAt 0 (take n front) old new → Spells s old new (Ok n)
+spells_front s front old new n is within low put = subst (λ t. Spells t old new (Ok n)) (sym is) (ap Ok (omega (arith, length-take-le n front within, low)), put)
 
 module _ (whole others : Spelling) (text : List ℕ) (i : ℕ) (old new : List ℕ) where
   -- all values were stored

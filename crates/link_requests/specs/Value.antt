@@ -52,6 +52,11 @@ set_for (Attributes set) x f = set_at x set None f
 set_for (Elements set list) x f = set_at x set (Some list) f
 set_for scope x f = None
 
+-- whether these fields are those of a list of another set: only then does it matter which set reads the list
+abbrev pub is_held : Fields → Bool
+is_held (fields.Passed form None) = form == form_held
+is_held own = false
+
 -- ---- payloads
 
 -- the offset of a value that refers to no bytes: it has octets of its own, or it is a list whose values follow

@@ -1,11 +1,11 @@
 //! The lists that the values of a request are in.
 
-ghost use Rattle.std.specs.Prelude.{◌≡◌, Some, IfSome};
+ghost use Rattle.std.specs.Prelude.{◌≡◌, true, Some, IfSome};
 ghost use Rattle.link_base.specs.Borrowed.{elements_at};
 ghost use Rattle.netlink_packet_route.specs.Family.{table_of};
 ghost use Rattle.link_entries.specs.Fields.{IsNarrow, fields_at};
 ghost use Rattle.link_requests.specs.Opening.{kinds_of};
-ghost use Rattle.link_requests.specs.Value.{is_protinfo, row_for, kind_for, type_for, set_for, is_allowed, scope_below, is_above, begins_at};
+ghost use Rattle.link_requests.specs.Value.{is_protinfo, row_for, kind_for, type_for, set_for, is_held, is_allowed, scope_below, is_above, begins_at};
 ghost use Rattle.link_requests.specs.Values.{kinds_in, kinds_among};
 ghost use Rattle.link_requests.specs.declared.level.Scope.TheVariants.{Attributes};
 
@@ -120,8 +120,32 @@ pub(crate) fn type_for(level: &Level<'_>, index: usize, own: Fields, entry: &Ent
     }
 }
 
+/// Returns the set that reads the list in a value with these fields and this `nla_type`. If the value is not a list of another
+/// set, the result is not used, and no set is looked for.
+pub(crate) fn reader_for(level: &Level<'_>, own: Fields, nla_type: u16) -> Option<Family>
+    ensures { is_held own ≡ true → result ≡ set_for level.now.scope (kinds_of level.now.context) nla_type }
+{
+    if !is_held(own) {
+        return None;
+    }
+    set_for(level, nla_type)
+}
+
+/// Checks whether these fields are those of a list of another set.
+fn is_held(own: Fields) -> bool
+    ensures { result ≡ is_held own }
+{
+    matches!(
+        own,
+        Fields::Passed {
+            form: forms::HELD,
+            size: None
+        }
+    )
+}
+
 /// Returns the set that reads a list with this `nla_type`.
-pub(crate) fn set_for(level: &Level<'_>, nla_type: u16) -> Option<Family>
+fn set_for(level: &Level<'_>, nla_type: u16) -> Option<Family>
     ensures { result ≡ set_for level.now.scope (kinds_of level.now.context) nla_type }
 {
     match level.scope {

@@ -73,6 +73,21 @@ fn is_written(head: Head, values: &[Entry], wanted: &[u8]) -> bool {
     }
 }
 
+/// Returns whether a request with this alias has this length, and the alias.
+fn has_alias(alias: &[u8], length: usize) -> bool {
+    let head = Head::create();
+    let values = [Entry {
+        length: (alias.len() % 65536) as u32,
+        ..value(0, 20, 0, forms::TEXT)
+    }];
+    let mut out = [0xAAu8; 300];
+    let is_written = write_request(&head, &values, alias, &mut out) == Ok(Some(length));
+    is_written
+        && measure(&head, &values, alias) == Ok(length)
+        && out[36..].starts_with(alias)
+        && out.ends_with(&[0xAA; 8])
+}
+
 /// Returns whether the value at this index is refused so.
 fn is_refused(values: &[Entry], index: usize, misfit: ValueMisfit) -> bool {
     let wanted = RequestError::Value(ValueMisfitAt { index, misfit });
@@ -226,4 +241,11 @@ fn refused_values(rt: HostRuntime) {
     let large = ValueMisfit::Entry(Misfit::BadNumber);
     assert!(rt; is_refused(&[number(0, 4, 0x1_0000_0000)], 0, large));
     assert!(rt; is_refused(&[info, kind, data, number(2, 1, 0x1_0000)], 3, large));
+}
+
+// The longest attributes that are made once, and longer ones
+#[test]
+fn aliases(rt: HostRuntime) {
+    assert!(rt; has_alias(&[b'a'; 252], 288));
+    assert!(rt; has_alias(&[b'a'; 253], 292));
 }

@@ -8,7 +8,9 @@ ghost use Rattle.link_requests.specs.Spelling.{before, fitted, at_fault, Spells}
 ghost use Rattle.link_requests.specs.Value.{is_above, inside_of, number_with, attribute_with, value_of};
 ghost use Rattle.link_requests.specs.Values.{values_of, inner_of};
 
-use crate::level::{Level, Scope, context_in, is_above, row_for, scope_below, set_for, type_for};
+use crate::level::{
+    Level, Scope, context_in, is_above, reader_for, row_for, scope_below, type_for,
+};
 use crate::misfit::{ValueMisfit, ValueMisfitAt};
 use crate::value::put_value_payload;
 use link_base::MAX_PAYLOAD;
@@ -133,7 +135,7 @@ fn put_attribute<'a>(
     ensures index { IfErr result (λ e. e.index < 1 + length others.now) }
 {
     let nla_type = type_for(level, index, own, entry);
-    let reader = set_for(level, nla_type);
+    let reader = reader_for(level, own, nla_type);
     let follow = is_above(level.depth, others);
     let size = match put_value_payload(level.scope, reader, own, follow, entry, octets, room) {
         Ok(size) => size,

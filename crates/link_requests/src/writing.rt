@@ -1,8 +1,9 @@
 //! Requests from a head and values.
 
-ghost use Rattle.std.specs.Prelude.{◌≡◌, ◌++◌, bit_or, IfErr};
+ghost use Rattle.std.specs.Prelude.{◌≡◌, ◌≤◌, ◌++◌, Ok, bit_or, length, take, IfOk};
 ghost use Rattle.std.specs.Int.{w32, cast_unsigned};
 ghost use Rattle.link_base.specs.Number.{bytes_of};
+ghost use Rattle.link_entries.specs.Stored.{StoresBytes};
 ghost use Rattle.link_requests.specs.Spelling.{Spells};
 ghost use Rattle.link_requests.specs.Request.{link_head, attributes_of, request_of, sized, Stores};
 
@@ -19,6 +20,9 @@ const NLM_F_REQUEST: u16 = 1;
 /// The maximum length of the attributes: `nlmsg_len` is a u32, and counts the 32 bytes of the headers.
 const MOST_ATTRIBUTES: usize = 0xFFFF_FFFF - 32;
 
+/// The maximum length of attributes that `write_request` makes once. It makes longer ones twice: to measure, and to store them.
+const SHORT: usize = 256;
+
 /// Returns the length of the message that `write_request` writes, in bytes. Nothing is allocated.
 ///
 /// # Errors
@@ -27,9 +31,26 @@ const MOST_ATTRIBUTES: usize = 0xFFFF_FFFF - 32;
 pub fn measure(head: &Head, values: &[Entry], octets: &[u8]) -> Result<usize, RequestError>
     ensures { result ≡ sized (request_of head.now octets.now values.now) }
 {
+    measure_into(head, values, octets, &mut [])
+}
+
+/// Returns the length of the message, as `measure` does, and stores its attributes at the start of `room`, if there is room.
+///
+/// # Errors
+///
+/// As for `write_request`.
+fn measure_into(
+    head: &Head,
+    values: &[Entry],
+    octets: &[u8],
+    room: &mut [u8],
+) -> Result<usize, RequestError>
+    ensures size { result ≡ sized (request_of head.now octets.now values.now) }
+    ensures stored { IfOk result (λ n. StoresBytes (attributes_of head.now octets.now values.now) room.old room.new) }
+{
     match head_error(head) {
         Some(error) => Err(error),
-        None => match put_attributes(head, values, octets, &mut []) {
+        None => match put_attributes(head, values, octets, room) {
             Ok(size) if size > MOST_ATTRIBUTES => Err(RequestError::TooLarge),
             Ok(size) => Ok(32 + size),
             Err(first) => Err(RequestError::Value(first)),
@@ -65,19 +86,44 @@ pub fn write_request(
 ) -> Result<Option<usize>, RequestError>
     ensures { Stores (request_of head.now octets.now values.now) out.old out.new result }
 {
-    // Before anything is stored: `out` is unchanged if the request cannot be written.
-    match measure(head, values, octets) {
+    // First in a buffer of our own, since `out` is unchanged if the request cannot be written.
+    let mut short = [0; SHORT];
+    match measure_into(head, values, octets, &mut short) {
         Ok(length) if length > out.len() => Ok(None),
         Ok(length) => {
             store(out, 0, &message_head(head, length as u32));
             store(out, 16, &link_head(head));
-            match put_attributes(head, values, octets, &mut out[32..]) {
+            match place_attributes(head, values, octets, &short, length - 32, &mut out[32..]) {
                 Ok(_) => Ok(Some(length)),
                 Err(first) => Err(RequestError::Value(first)),
             }
         }
         Err(error) => Err(error),
     }
+}
+
+/// Stores the attributes of a request, as `put_attributes` does. Their length is `size`; if they fit in `short`, they are at its
+/// start.
+///
+/// # Errors
+///
+/// As for `put_attributes`.
+fn place_attributes(
+    head: &Head,
+    values: &[Entry],
+    octets: &[u8],
+    short: &[u8],
+    size: usize,
+    room: &mut [u8],
+) -> Result<usize, ValueMisfitAt>
+    requires { size ≤ length short.now → attributes_of head.now octets.now values.now ≡ Ok (take size short.now) }
+    ensures { Spells (attributes_of head.now octets.now values.now) room.old room.new result }
+{
+    if size > short.len() {
+        return put_attributes(head, values, octets, room);
+    }
+    store(room, 0, &short[..size]);
+    Ok(size)
 }
 
 /// Stores the attributes of a request, if there is room. Returns their length; saturates at `usize::MAX`.

@@ -1,5 +1,5 @@
 use borrow.Rule.Slice.PartMut.{put_mid}
-use Rattle.std.proofs.Common.{◌≡◌, ◌∙◌, ◌+◌, ◌-◌, ◌≤◌, [], ◌++◌, cond, Ok, length, take, drop, replicate, refl, sym, ap, ap₂, subst, arith, ⊎_elim}
+use Rattle.std.proofs.Common.{◌≡◌, ◌∙◌, ◌+◌, ◌-◌, ◌≤◌, [], ◌++◌, cond, Ok, Err, length, take, drop, replicate, refl, sym, ap, ap₂, subst, arith, ⊎_elim}
 use Rattle.std.proofs.lemmas.List.{append-nil, length-append}
 use Rattle.link_base.specs.Frame.{max_payload, pad}
 use Rattle.link_entries.specs.Stored.{StoresAt, header, padded}
@@ -9,10 +9,31 @@ use Rattle.link_requests.specs.Spelling.{alone, before, fitted, Spells, StoresPa
 use Rattle.link_requests.specs.Value.{value_payload, scope_below, inside_of, below_of, value_of}
 use Rattle.link_requests.specs.Values.{values_of, inner_of}
 use Rattle.link_requests.proofs.Spellings.{reached_by, reached_more, reached_skip}
-use Rattle.link_requests.proofs.StoredValues.{sized_ok, spells_ok, spells_err, spells_error, spells_frame, spells_behind}
+use Rattle.link_requests.proofs.StoredValues.{sized_ok, sized_err, spells_ok, spells_err, spells_error, spells_frame, spells_behind}
 use Rattle.link_requests.proofs.Following.{attribute_same, nothing_own}
 use Rattle.link_requests.proofs.Steps.{value_here, value_skipped}
 use Rattle.link_requests.proofs.values.+values.Goals as goal
+
+pub put_attribute-returns-in-Err-clause-spells : goal.put_attribute-returns-in-Err-clause-spells
+put_attribute-returns-in-Err-clause-spells t c =
+    let e = c.args.entry.now in
+    let es = c.args.others.now in
+    let octets = c.args.octets.now in
+    let scope = c.args.level.now.scope in
+    let depth = c.args.level.now.depth in
+    let x = kinds_of c.args.level.now.context in
+    let own = c.args.own in
+    let inner = inner_of octets depth x es in
+    let f = c.type_for-nla_type.result in
+    let reader = c.reader_for-reader.result in
+    let follow = c.is_above-follow.result in
+    let room = c.args.room.now in
+    let last = c.put_value_payload.new.room in
+    let misfit = c.in-Err.misfit in
+    let is = sized_err (value_payload scope reader own follow e octets) misfit c.in-Err.ensures.size in
+    let all = ap (λ r. fitted f (before (alone r) (below_of depth (scope_below scope reader own e) inner es))) (sym is)
+    ∙ attribute_same octets scope depth x c.args.index own e es inner f reader follow c.type_for-nla_type.ensures c.reader_for-reader.ensures c.is_above-follow.ensures in
+    subst (λ s. Spells s room last (Err (record { index = 0; misfit = misfit }))) all (refl, subst (λ r. StoresPayload r room last) is c.in-Err.ensures.stored)
 
 pub put_attribute-returns-then-not-follow-clause-spells : goal.put_attribute-returns-then-not-follow-clause-spells
 put_attribute-returns-then-not-follow-clause-spells t c =
@@ -25,7 +46,7 @@ put_attribute-returns-then-not-follow-clause-spells t c =
     let own = c.args.own in
     let inner = inner_of octets depth x es in
     let f = c.type_for-nla_type.result in
-    let reader = c.set_for-reader.result in
+    let reader = c.reader_for-reader.result in
     let follow = c.is_above-follow.result in
     let room = c.args.room.now in
     let one = c.put_value_payload.new.room in
@@ -38,7 +59,7 @@ put_attribute-returns-then-not-follow-clause-spells t c =
     let frame = spells_frame f p n room last short (stored_frame f p room one last put head) (subst (λ m. n ≡ pad (4 + m)) size c.store_header.ensures.length) in
     let none : below_of depth (scope_below scope reader own e) inner es ≡ Ok [] = ap (λ b. cond b (inside_of (depth + 1) (scope_below scope reader own e) inner es) (Ok [])) (sym c.is_above-follow.ensures ∙ c.if-not-follow.true) in
     let all = ap (λ q. fitted f (Ok q)) (sym (append-nil p)) ∙ ap₂ (λ r s. fitted f (before (alone r) s)) (sym is) (sym none)
-    ∙ attribute_same octets scope depth x c.args.index own e es inner f reader follow c.type_for-nla_type.ensures c.set_for-reader.ensures c.is_above-follow.ensures in
+    ∙ attribute_same octets scope depth x c.args.index own e es inner f reader follow c.type_for-nla_type.ensures c.reader_for-reader.ensures c.is_above-follow.ensures in
     subst (λ s. Spells s room last (Ok n)) all frame
 
 pub put_attribute-returns-clause-spells : goal.put_attribute-returns-clause-spells
@@ -52,7 +73,7 @@ put_attribute-returns-clause-spells t c =
     let own = c.args.own in
     let inner = inner_of octets depth x es in
     let f = c.type_for-nla_type.result in
-    let reader = c.set_for-reader.result in
+    let reader = c.reader_for-reader.result in
     let follow = c.is_above-follow.result in
     let room = c.args.room.now in
     let one = c.put_value_payload.new.room in
@@ -64,7 +85,7 @@ put_attribute-returns-clause-spells t c =
     let some : below_of depth (scope_below scope reader own e) inner es ≡ inside = ap (λ b. cond b inside (Ok [])) (sym c.is_above-follow.ensures ∙ c.if-not-follow.false) in
     let first = subst (λ sub. Spells (fitted f (before (Ok []) (inside_of (depth + 1) sub inner es))) one last result) c.scope_below-scope.ensures c.put_below.ensures.spells in
     let all = ap₂ (λ r s. fitted f (before (alone r) s)) (sym is) (sym some)
-    ∙ attribute_same octets scope depth x c.args.index own e es inner f reader follow c.type_for-nla_type.ensures c.set_for-reader.ensures c.is_above-follow.ensures in
+    ∙ attribute_same octets scope depth x c.args.index own e es inner f reader follow c.type_for-nla_type.ensures c.reader_for-reader.ensures c.is_above-follow.ensures in
     let own_or_none = nothing_own scope reader e octets p own (sym (ap (λ b. value_payload scope reader own b e octets) c.if-not-follow.false) ∙ is) in
     subst (λ s. Spells s room last result) all
     (⊎_elim
