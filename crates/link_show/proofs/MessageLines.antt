@@ -1,10 +1,10 @@
 -- The lines of messages, from what was written for their parts.
-use Rattle.std.proofs.Common.{◌≡◌, ◌≢◌, ℕ, ℤ, pos, negsuc, Bool, true, false, true≢false, arith, ◌&&◌, List, ◌++◌, drop, Option, None, Result, Ok, Err, IfOk, refl, sym, ap, ◌∙◌, append_assoc, codes}
+use Rattle.std.proofs.Common.{◌≡◌, ◌≢◌, ℕ, ℤ, pos, negsuc, Bool, true, arith, ◌&&◌, List, ◌++◌, drop, Result, Ok, Err, IfOk, refl, sym, ◌∙◌, append_assoc, codes}
 use Rattle.std.specs.Int.RustNames.{unsigned_abs}
 use Rattle.std.specs.Int.{is_negative}
 use Rattle.link_show.specs.Sink.{Output, Gains}
 use Rattle.link_show.specs.Gained.{gains_more}
-use Rattle.std.proofs.lemmas.Bool.{ltb-true, cond-true, cond-false, eq-eqb, ne_eqb}
+use Rattle.std.proofs.lemmas.Bool.{ltb-true, cond-false, ne_eqb}
 use Rattle.link_base.specs.Labels.{name_in}
 use Rattle.link_messages.specs.declared.buffer_parts.Message.{Message}
 use Rattle.link_messages.specs.Message.{Stand, IsMessageAt}
@@ -13,7 +13,7 @@ use Rattle.link_show.specs.Structs.{field}
 use Rattle.link_show.specs.Errno.{errno_names}
 use Rattle.link_show.specs.List.{Writes}
 use Rattle.link_show.specs.HeaderText.{unless_zero}
-use Rattle.link_show.specs.Message.{errno_name, result_line, error_number_line, ShowsBuffer}
+use Rattle.link_show.specs.Message.{errno_name, ShowsBuffer}
 use Rattle.link_show.proofs.Listing.{and_true, Added, ShownTo, shown_more}
 
 pub if_ok : {X E : Type 0} (P Q : X → Type 0) (r : Result X E) → ((x : X) → P x → Q x) → IfOk r P → IfOk r Q
@@ -32,22 +32,10 @@ field_unless_zero n name text some =
     let shape : (codes " " ++ (name ++ codes " ")) ++ text ≡ codes " " ++ field name text = simp append_assoc in
     shape ∙ sym (cond-false _ _ _ (ne_eqb _ _ some))
 
-pub result_text : (e : ℤ) (name : Option (List ℕ)) → unsigned_abs e ≢ 0 → name ≡ errno_name e → error_number_line name e ≡ result_line e
-unfolding result_line
-result_text e name some is = ap (λ k. error_number_line k e) is ∙ sym (cond-false _ _ _ (ne_eqb _ _ some))
-
-pub ack_text : (e : ℤ) → unsigned_abs e ≡ 0 → codes "  ack\n" ≡ result_line e
-unfolding result_line
-ack_text e none = sym (cond-true _ _ _ (eq-eqb _ _ none))
-
--- the name of a negative number, and of another
+-- the name of a negative number
 pub errno_negative : (e : ℤ) → is_negative e ≡ true → name_in errno_names (unsigned_abs e) ≡ errno_name e
 errno_negative (pos n) h = absurd (omega (arith, ltb-true n 0 h))
 errno_negative (negsuc n) h = refl
-
-pub errno_positive : (e : ℤ) → is_negative e ≡ false → None ≡ errno_name e
-errno_positive (pos n) h = refl
-errno_positive (negsuc n) h = absurd (true≢false h)
 
 -- ---- the messages of a buffer
 

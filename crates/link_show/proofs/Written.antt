@@ -1,5 +1,5 @@
 -- What a loop has written so far.
-use Rattle.std.proofs.Common.{◌≡◌, ℕ, List, [], ◌∷◌, ◌++◌, Result, Ok, Err, OnOk, refl, sym, ap, subst, ◌∙◌, append_assoc}
+use Rattle.std.proofs.Common.{◌≡◌, ℕ, List, [], ◌∷◌, ◌++◌, refl, sym, ap, subst, ◌∙◌, append_assoc}
 use Rattle.link_show.specs.Sink.{Output, Gains}
 use Rattle.std.proofs.lemmas.List.{drop_more, drop_all}
 use Rattle.link_show.specs.Gained.{gains_nothing, gains_more}
@@ -40,8 +40,3 @@ next_two old mid more new text first next separator t texts others w p q e n = n
 
 -- what the prover tries in a loop over texts with separators
 pub ruleset next_steps = (next_written, next_two, drop_more, drop_all)
-
--- a text was written, and then, unless the call failed, another
-pub then_written : {X E : Type 0} (r : Result X E) (old mid new : Output) (t more : List ℕ) → Gains old mid t → OnOk r (Gains mid new more) → OnOk r (Gains old new (t ++ more))
-then_written (Ok x) old mid new t more a h = gains_more old mid new t more a h
-then_written (Err e) old mid new t more a h = h
