@@ -1,6 +1,6 @@
 //! A document that is being written.
 
-ghost use Rattle.std.specs.Prelude.{◌≡◌, ◌++◌, ◌∷◌, [], List, OnOk};
+ghost use Rattle.std.specs.Prelude.{◌≡◌, ◌<◌, ◌++◌, ◌∷◌, [], List, OnOk, decimal};
 ghost use Rattle.std.specs.Io.KnownBytes.{Appends};
 ghost use Rattle.json.specs.Lex.{tokens};
 ghost use Rattle.json.specs.Print.{print};
@@ -122,12 +122,12 @@ impl Sheet {
         self.writer.key(name)
     }
 
-    /// Writes a number. Most are 0.
+    /// Writes a number. Most have one digit.
     pub fn number(&mut self, n: u64) -> Result<(), AllocError>
         ensures { OnOk result (self.new ≡ self.old ++ json_tokens (number_json n)) }
     {
-        if n == 0 {
-            return self.writer.number("0");
+        if n < 10 {
+            return self.writer.number(digit(n));
         }
         self.writer.u64(n)
     }
@@ -136,8 +136,8 @@ impl Sheet {
     pub(crate) fn signed(&mut self, n: i32) -> Result<(), AllocError>
         ensures { OnOk result (self.new ≡ self.old ++ json_tokens (signed_json n)) }
     {
-        if n == 0 {
-            return self.writer.number("0");
+        if n >= 0 {
+            return self.number(n as u64);
         }
         self.writer.i64(n.into())
     }
@@ -161,6 +161,26 @@ impl Sheet {
         ensures { OnOk result (self.new ≡ self.old ++ null ∷ []) }
     {
         self.writer.null()
+    }
+}
+
+/// Returns a number of one digit.
+#[tactic(auto, using(std::proofs::lemmas::Fmt::decimal_digit))]
+fn digit(n: u64) -> &'static str
+    requires { n < 10 }
+    ensures { result.now ≡ decimal n }
+{
+    match n {
+        0 => "0",
+        1 => "1",
+        2 => "2",
+        3 => "3",
+        4 => "4",
+        5 => "5",
+        6 => "6",
+        7 => "7",
+        8 => "8",
+        _ => "9",
     }
 }
 

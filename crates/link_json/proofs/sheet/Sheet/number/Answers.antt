@@ -1,20 +1,19 @@
-use Rattle.std.proofs.Common.{◌≡◌, ◌++◌, ◌∷◌, [], ◌∙◌, refl, sym, ap, ap₂, arith}
-use Rattle.std.specs.Fmt.{decimal, digits}
+use Rattle.std.proofs.Common.{◌≡◌, ◌++◌, ◌∷◌, [], ◌∙◌, sym, ap, ap₂, subst, arith}
+use Rattle.std.specs.Fmt.{decimal}
 use Rattle.json.specs.Token.{number}
-use Rattle.json.specs.Word.{after_number}
+use Rattle.json.specs.Print.{IsNumber}
+use Rattle.json.proofs.Printed.Decimals.{IsNumber-decimal}
 use Rattle.link_json.specs.Doc.{eight_bytes}
 use Rattle.link_json.proofs.Loops.{on_ok}
 use Rattle.link_json.proofs.sheet.Sheet.number.Goals as goal
 
 pub number-requires : goal.number-requires
-unfolding after_number
-number-requires c = refl
+number-requires c = subst IsNumber (sym c.digit.ensures) (IsNumber-decimal c.args.n (omega arith))
 
-pub returns-then-n-eq0 : goal.returns-then-n-eq0
-unfolding digits
-returns-then-n-eq0 c =
-    let zero : (48 ∷ []) ≡ decimal (eight_bytes c.args.n) = ap (λ n. decimal (eight_bytes n)) (sym c.if-n-eq0.true) in
-    on_ok c.number.result (λ e. e ∙ ap₂ (λ a d. a ++ number d ∷ []) c.self.view_is zero) c.number.ensures.ok
+pub returns-then-n-lt10 : goal.returns-then-n-lt10
+returns-then-n-lt10 c =
+    let low : c.args.n ≡ eight_bytes c.args.n = omega arith in
+    on_ok c.number.result (λ e. e ∙ ap₂ (λ a d. a ++ number d ∷ []) c.self.view_is (c.digit.ensures ∙ ap decimal low)) c.number.ensures.ok
 
 pub returns : goal.returns
 returns c =

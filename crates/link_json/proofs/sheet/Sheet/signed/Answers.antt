@@ -1,9 +1,8 @@
-use Rattle.std.proofs.Common.{◌≡◌, ◌++◌, ◌∷◌, [], ◌∙◌, ℤ, pos, negsuc, ◌%◌, ◌^◌, ◌<◌, refl, sym, ap, ap₂, arith, to_z, of_z, w32, w64}
+use Rattle.std.proofs.Common.{◌≡◌, ◌++◌, ◌∷◌, [], ◌∙◌, ℤ, pos, negsuc, ◌%◌, ◌^◌, ◌<◌, ap, ap₂, arith, to_z, of_z, w32, w64}
 use Rattle.std.proofs.lemmas.Int.{to_z-of_z, ints}
-use Rattle.std.specs.Fmt.{digits, signed_decimal}
+use Rattle.std.specs.Fmt.{signed_decimal}
 use Rattle.std.specs.Int.Signed.{mag}
 use Rattle.json.specs.Token.{number}
-use Rattle.json.specs.Word.{after_number}
 use Rattle.link_json.specs.Doc.{four_signed}
 use Rattle.link_json.proofs.Loops.{on_ok}
 use Rattle.link_json.proofs.sheet.Sheet.signed.Goals as goal
@@ -11,19 +10,6 @@ use Rattle.link_json.proofs.sheet.Sheet.signed.Goals as goal
 low : (z : ℤ) → mag z < 2 ^ 31 → z ≡ four_signed z
 low (pos n) h = let e : n ≡ n % 2 ^ 31 = omega (arith, h) in ap pos e
 low (negsuc n) h = let e : n ≡ n % 2 ^ 31 = omega (arith, h) in ap negsuc e
-
-pub number-requires : goal.number-requires
-unfolding after_number
-number-requires c = refl
-
-pub returns-then-n-eq0 : goal.returns-then-n-eq0
-unfolding digits
-returns-then-n-eq0 c =
-    let z = c.args.n in
-    let small : to_z w32 (of_z w32 z) ≡ z = to_z-of_z w32 z (omega (arith, ints)) in
-    let none : z ≡ pos 0 = sym small ∙ ap (to_z w32) c.if-n-eq0.true in
-    let zero : (48 ∷ []) ≡ signed_decimal (four_signed z) = ap (λ x. signed_decimal (four_signed x)) (sym none) in
-    on_ok c.number.result (λ e. e ∙ ap₂ (λ a d. a ++ number d ∷ []) c.self.view_is zero) c.number.ensures.ok
 
 pub returns : goal.returns
 returns c =
