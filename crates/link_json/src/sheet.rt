@@ -123,16 +123,25 @@ impl Sheet {
     }
 
     /// Writes a number. Most have one digit.
+    #[inline(always)]
     pub fn number(&mut self, n: u64) -> Result<(), AllocError>
         ensures { OnOk result (self.new ≡ self.old ++ json_tokens (number_json n)) }
     {
         if n < 10 {
             return self.writer.number(digit(n));
         }
+        self.any_number(n)
+    }
+
+    #[inline(never)]
+    fn any_number(&mut self, n: u64) -> Result<(), AllocError>
+        ensures { OnOk result (self.new ≡ self.old ++ json_tokens (number_json n)) }
+    {
         self.writer.u64(n)
     }
 
     /// Writes a number that may be negative.
+    #[inline(always)]
     pub(crate) fn signed(&mut self, n: i32) -> Result<(), AllocError>
         ensures { OnOk result (self.new ≡ self.old ++ json_tokens (signed_json n)) }
     {
@@ -165,6 +174,7 @@ impl Sheet {
 }
 
 /// Returns a number of one digit.
+#[inline(always)]
 #[tactic(auto, using(std::proofs::lemmas::Fmt::decimal_digit))]
 fn digit(n: u64) -> &'static str
     requires { n < 10 }

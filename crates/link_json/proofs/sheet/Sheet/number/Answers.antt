@@ -14,8 +14,3 @@ pub returns-then-n-lt10 : goal.returns-then-n-lt10
 returns-then-n-lt10 c =
     let low : c.args.n ≡ eight_bytes c.args.n = omega arith in
     on_ok c.number.result (λ e. e ∙ ap₂ (λ a d. a ++ number d ∷ []) c.self.view_is (c.digit.ensures ∙ ap decimal low)) c.number.ensures.ok
-
-pub returns : goal.returns
-returns c =
-    let low : c.args.n ≡ eight_bytes c.args.n = omega arith in
-    on_ok c.u64.result (λ e. e ∙ ap₂ (λ a n. a ++ number (decimal n) ∷ []) c.self.view_is low) c.u64.ensures.ok
