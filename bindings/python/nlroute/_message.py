@@ -36,7 +36,9 @@ class Message:
     flags: int  # nlmsg_flags
     sequence: int  # nlmsg_seq
     port: int  # nlmsg_pid
-    is_link: bool  # whether it has a struct ifinfomsg: RTM_NEWLINK, RTM_DELLINK, RTM_GETLINK, RTM_SETLINK
+    # whether it has a struct ifinfomsg: RTM_NEWLINK, RTM_DELLINK, RTM_GETLINK, RTM_SETLINK, RTM_NEWLINKPROP,
+    # RTM_DELLINKPROP, RTM_GETLINKPROP
+    is_link: bool
     index: int  # ifi_index
     link_flags: int  # ifi_flags
     change: int  # ifi_change

@@ -13,7 +13,7 @@ from ._show import HEADER, flags_text, header_words, pieces, quoted, set_lines
 from ._tables import TABLES
 
 NLMSG_ERROR, NLMSG_DONE, RTM_GETLINK = 2, 3, 18
-LINK_TYPES = (16, 17, 18, 19)  # of messages about links
+LINK_TYPES = (16, 17, 18, 19, 108, 109, 110)  # of messages about links
 IFLA_IFNAME = 3
 CAPPED, ACK_TLVS = 0x100, 0x200  # NLM_F_ of a reply
 NLMSGHDR = struct.Struct("<IHHII")
@@ -22,7 +22,7 @@ NLMSGERR = 4 + NLMSGHDR.size
 # Names in `linux/netlink.h` and `rtnetlink.h`, those of flags without NLM_F_
 MESSAGE_TYPES = {
     1: "NLMSG_NOOP", 2: "NLMSG_ERROR", 3: "NLMSG_DONE", 4: "NLMSG_OVERRUN", 16: "RTM_NEWLINK", 17: "RTM_DELLINK",
-    18: "RTM_GETLINK", 19: "RTM_SETLINK",
+    18: "RTM_GETLINK", 19: "RTM_SETLINK", 108: "RTM_NEWLINKPROP", 109: "RTM_DELLINKPROP", 110: "RTM_GETLINKPROP",
 }  # fmt: skip
 COMMON_FLAGS = {0x1: "REQUEST", 0x2: "MULTI", 0x4: "ACK", 0x8: "ECHO", 0x10: "DUMP_INTR", 0x20: "DUMP_FILTERED"}
 NEW_FLAGS = {0x100: "REPLACE", 0x200: "EXCL", 0x400: "CREATE", 0x800: "APPEND"}
@@ -30,7 +30,10 @@ GET_FLAGS = {0x100: "ROOT", 0x200: "MATCH", 0x400: "ATOMIC"}
 DELETE_FLAGS = {0x100: "NONREC", 0x200: "BULK"}
 ERROR_FLAGS = {CAPPED: "CAPPED", ACK_TLVS: "ACK_TLVS"}
 # Those of one message type besides the common ones
-OWN_FLAGS = {2: ERROR_FLAGS, 3: ERROR_FLAGS, 16: NEW_FLAGS, 17: DELETE_FLAGS, 18: GET_FLAGS, 19: NEW_FLAGS}
+OWN_FLAGS = {
+    2: ERROR_FLAGS, 3: ERROR_FLAGS, 16: NEW_FLAGS, 17: DELETE_FLAGS, 18: GET_FLAGS, 19: NEW_FLAGS, 108: NEW_FLAGS,
+    109: DELETE_FLAGS, 110: GET_FLAGS,
+}  # fmt: skip
 # Names from 1 on (`asm-generic/errno-base.h`, `errno.h`); 41 and 58 have none
 ERRNOS = (
     "EPERM ENOENT ESRCH EINTR EIO ENXIO E2BIG ENOEXEC EBADF ECHILD EAGAIN ENOMEM EACCES EFAULT ENOTBLK EBUSY EEXIST "

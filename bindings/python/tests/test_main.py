@@ -29,6 +29,10 @@ ACK = "message 24000000 0200 0000 05000000 00000000 00000000 20000000 1000 0506 
 REFUSAL = ACK.replace(" 00000000 2", " efffffff 2")
 ALL = "message 20000000 1000 ffff 01000000 00000000 00000000 ffffffff ffffffff 01000080\n"
 SHORT = "message 10000000 1300 0000 01000000 00000000\n"
+NAME = "00000000 12000000 00000000 00000000 14003480 10003500 656e7032733066306e703000\n"
+NEW_NAME, OLD_NAME = f"message 34000000 6c00 050e 01000000 00000000 {NAME}", f"message 34000000 6d00 0503 01000000 00000000 {NAME}"
+NAMES = "message 20000000 6e00 0107 01000000 00000000 00000000 12000000 00000000 00000000\n"
+NAME_LINES = '  ifindex 18\n  IFLA_PROP_LIST\n    IFLA_ALT_IFNAME "enp2s0f0np0"\n'
 PEER = "veth 14000100 00000000 00000000 ffffffff 00000000\n"
 
 
@@ -114,6 +118,9 @@ class Lines(unittest.TestCase):
             ("message 0\n", 1, "message 0\nbad hex\n"),
             ("message 00\n", 1, "message 00\nerror at 0: 1 byte left, too few for a message header\n"),
             (SHORT, 1, SHORT + "RTM_SETLINK len 16 flags 0 seq 1 pid 0\n  error at 0: 16 bytes, too few for a link message\n"),
+            (NEW_NAME, 0, NEW_NAME + "RTM_NEWLINKPROP len 52 flags REQUEST|ACK|EXCL|CREATE|APPEND seq 1 pid 0\n" + NAME_LINES),
+            (OLD_NAME, 0, OLD_NAME + "RTM_DELLINKPROP len 52 flags REQUEST|ACK|NONREC|BULK seq 1 pid 0\n" + NAME_LINES),
+            (NAMES, 0, NAMES + "RTM_GETLINKPROP len 32 flags REQUEST|ROOT|MATCH|ATOMIC seq 1 pid 0\n  ifindex 18\n"),
             ("check " + SHORT, 1, "check " + SHORT + "no such family\n"),
             (PEER, 0, PEER + "  VETH_INFO_PEER ifindex 0 flags all (empty)\n"),
             ("dsa\r\n" + LIST[:-1], 0, "dsa\n" + PRINTED),

@@ -106,8 +106,8 @@ impl<'a> Message<'a> {
         self.raw.port
     }
 
-    /// Returns whether the message is about a link: RTM_NEWLINK, RTM_DELLINK, RTM_GETLINK or RTM_SETLINK. It then has a
-    /// `struct ifinfomsg`.
+    /// Returns whether the message is about a link: RTM_NEWLINK, RTM_DELLINK, RTM_GETLINK, RTM_SETLINK, RTM_NEWLINKPROP,
+    /// RTM_DELLINKPROP or RTM_GETLINKPROP. It then has a `struct ifinfomsg`.
     pub fn is_link(&self) -> bool {
         self.raw.is_link != 0
     }

@@ -135,6 +135,28 @@ fn the_other_end_of_a_link_has_lists() {
 }
 
 #[test]
+fn messages_about_properties_are_read() -> Result<(), Fault> {
+    // `ip link property add dev p2 altname enp2s0f0np0`: IFLA_PROP_LIST (52) with NLA_F_NESTED and IFLA_ALT_IFNAME (53)
+    let names = attribute(52 | 0x8000, &attribute(53, b"enp2s0f0np0\0"));
+    let body = [vec![0, 0, 0, 0, 18, 0, 0, 0, 0, 0, 0, 0, 0, 0, 0, 0], names.clone()].concat();
+    for kind in [108, 109, 110] {
+        let bytes = message(kind, &body);
+        let it = only(&bytes);
+        assert_eq!((it.message_type(), it.is_link(), it.index(), it.payload()), (kind, true, 18, &names[..]));
+        let lists = it.lists().collect::<Result<Vec<_>, _>>()?;
+        assert_eq!(lists.len(), 1);
+        assert_eq!(lists[0].to_string(), "IFLA_PROP_LIST\n  IFLA_ALT_IFNAME \"enp2s0f0np0\"\n");
+        let found = it.attributes()?.get(IFLA_PROP_LIST).and_then(|list| list.get(prop_list::IFLA_ALT_IFNAME));
+        assert_eq!(found, Some(Text::from("enp2s0f0np0")));
+        let short = message(kind, &[0; 4]);
+        let fault = messages(&short).next().map(|it| it.expect_err("it has no struct ifinfomsg").cause());
+        assert_eq!(fault, Some(Cause::TooShort { least: 32, actual: 20 }));
+    }
+    assert!([107, 111].iter().all(|kind| !only(&message(*kind, &body)).is_link()));
+    Ok(())
+}
+
+#[test]
 fn malformed_messages_are_errors() {
     let good = message(3, &[0; 4]);
     let rows = [

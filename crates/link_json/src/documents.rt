@@ -16,10 +16,8 @@ use crate::parts::write_number_field;
 use crate::place::Place;
 use crate::replies::write_reply;
 use crate::sheet::Sheet;
-use link_messages::message_types::{
-    NLMSG_DONE, NLMSG_ERROR, RTM_DELLINK, RTM_GETLINK, RTM_NEWLINK, RTM_SETLINK,
-};
-use link_messages::{Message, MessageError, link_header, read_acknowledgement};
+use link_messages::message_types::{NLMSG_DONE, NLMSG_ERROR};
+use link_messages::{Message, MessageError, is_any_link_type, link_header, read_acknowledgement};
 use link_show::message_names::{MESSAGE_TYPES, flag_names};
 use link_show::{is_general, offset_of};
 use std::alloc::AllocError;
@@ -94,7 +92,7 @@ fn write_body(sheet: &mut Sheet, message: &Message<'_>) -> Result<bool, AllocErr
 {
     match message.kind {
         NLMSG_ERROR | NLMSG_DONE => write_acknowledgement(sheet, message),
-        RTM_NEWLINK | RTM_DELLINK | RTM_GETLINK | RTM_SETLINK => write_about_link(sheet, message),
+        kind if is_any_link_type(kind) => write_about_link(sheet, message),
         _ => Ok(true),
     }
 }

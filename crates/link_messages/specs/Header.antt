@@ -7,9 +7,17 @@ use Rattle.link_messages.specs.declared.message.MessageError.{MessageError}
 use Rattle.link_messages.specs.declared.message.MessageError.TheVariants as errors
 use Rattle.link_messages.specs.Message.{Packet}
 
--- RTM_NEWLINK, RTM_DELLINK, RTM_SETLINK, RTM_GETLINK
+-- RTM_NEWLINK, RTM_DELLINK, RTM_GETLINK, RTM_SETLINK
+abbrev pub IsLinkType : ℕ → Type 0
+IsLinkType kind = (kind ≡ 16) ⊎ ((kind ≡ 17) ⊎ ((kind ≡ 18) ⊎ (kind ≡ 19)))
+
+-- RTM_NEWLINKPROP, RTM_DELLINKPROP, RTM_GETLINKPROP
+abbrev pub IsPropertyType : ℕ → Type 0
+IsPropertyType kind = (kind ≡ 108) ⊎ ((kind ≡ 109) ⊎ (kind ≡ 110))
+
+-- a message about a link
 abbrev pub IsAnyLinkType : ℕ → Type 0
-IsAnyLinkType kind = ((kind ≡ 16) ⊎ ((kind ≡ 17) ⊎ (kind ≡ 19))) ⊎ (kind ≡ 18)
+IsAnyLinkType kind = IsLinkType kind ⊎ IsPropertyType kind
 
 -- the header with which these bytes start: `ifi_family`, and a byte that is not used; `ifi_type`; `ifi_index`; `ifi_flags`; and
 -- `ifi_change`

@@ -4,11 +4,14 @@ ghost use Rattle.std.specs.Prelude.{◌≡◌, ◌≤◌, ◌↔◌, length, dro
 ghost use Rattle.link_messages.specs.Message.{packet_of};
 ghost use Rattle.link_messages.specs.Finding.{stretch_of};
 ghost use Rattle.link_messages.specs.Link.{attributes_of};
-ghost use Rattle.link_messages.specs.Header.{IsAnyLinkType, header_in, HasLinkHeader, HasNoLinkHeader};
+ghost use Rattle.link_messages.specs.Header.{IsLinkType, IsPropertyType, IsAnyLinkType, header_in, HasLinkHeader, HasNoLinkHeader};
 
 use crate::buffer_parts::{Message, Payload};
 use crate::message::MessageError;
-use crate::message_types::{RTM_DELLINK, RTM_GETLINK, RTM_NEWLINK, RTM_SETLINK};
+use crate::message_types::{
+    RTM_DELLINK, RTM_DELLINKPROP, RTM_GETLINK, RTM_GETLINKPROP, RTM_NEWLINK, RTM_NEWLINKPROP,
+    RTM_SETLINK,
+};
 use link_base::classes::peer::PEER_HEADER;
 use link_base::{u16_at, u32_at};
 
@@ -32,7 +35,7 @@ pub struct LinkHeader {
 ///
 /// # Errors
 ///
-/// `OtherType` if the type is none of RTM_NEWLINK (16), RTM_DELLINK (17), RTM_GETLINK (18) and RTM_SETLINK (19).
+/// `OtherType` unless [`is_any_link_type`].
 /// `ShortLink` if the message is shorter than the headers `struct nlmsghdr` and `struct ifinfomsg`, 32 bytes.
 pub fn link_header<'a>(message: &Message<'a>) -> Result<(LinkHeader, Payload<'a>), MessageError>
     ensures { MatchResult result
@@ -64,11 +67,26 @@ pub fn peer_parts(payload: &[u8]) -> (LinkHeader, &[u8])
     (header_of(payload), &payload[PEER_HEADER..])
 }
 
-/// Checks whether messages of type `kind` have a `struct ifinfomsg`.
-fn is_any_link_type(kind: u16) -> bool
+/// Checks whether messages of type `kind` are about a link, so that they have a `struct ifinfomsg`: RTM_NEWLINK, RTM_DELLINK,
+/// RTM_GETLINK, RTM_SETLINK, RTM_NEWLINKPROP, RTM_DELLINKPROP and RTM_GETLINKPROP.
+pub fn is_any_link_type(kind: u16) -> bool
     ensures { IsTrue result ↔ IsAnyLinkType kind }
 {
-    kind == RTM_NEWLINK || kind == RTM_DELLINK || kind == RTM_SETLINK || kind == RTM_GETLINK
+    is_link_type(kind) || is_property_type(kind)
+}
+
+/// Checks whether messages of type `kind` are about a link itself.
+fn is_link_type(kind: u16) -> bool
+    ensures { IsTrue result ↔ IsLinkType kind }
+{
+    kind == RTM_NEWLINK || kind == RTM_DELLINK || kind == RTM_GETLINK || kind == RTM_SETLINK
+}
+
+/// Checks whether messages of type `kind` are about properties of a link.
+fn is_property_type(kind: u16) -> bool
+    ensures { IsTrue result ↔ IsPropertyType kind }
+{
+    kind == RTM_NEWLINKPROP || kind == RTM_DELLINKPROP || kind == RTM_GETLINKPROP
 }
 
 /// Parses the `struct ifinfomsg` with which `body` starts.

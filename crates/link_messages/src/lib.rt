@@ -38,7 +38,7 @@ mod visiting;
 pub use acknowledgement::{Acknowledgement, read_acknowledgement};
 pub use before_fault::last_before_fault;
 pub use buffer_parts::{Message, Part, Payload};
-pub use header::{LinkHeader, link_header, peer_parts};
+pub use header::{LinkHeader, is_any_link_type, link_header, peer_parts};
 pub use held::{MOST_LEVELS, opened_at};
 pub use list_visitor::{HeldList, ListVisitor};
 pub use lists::{ListsError, lists_of, read_lists};

@@ -19,8 +19,8 @@ pub enum MessageError {
     SmallLength { at: usize, length: u32 },
     /// `nlmsg_len` is greater than `left`, the number of bytes left.
     Overrun { at: usize, length: u32, left: usize },
-    /// The message has another type than the function parses. `link_header` parses RTM_NEWLINK, RTM_DELLINK, RTM_GETLINK and
-    /// RTM_SETLINK, `read_acknowledgement` NLMSG_ERROR and NLMSG_DONE.
+    /// The message has another type than the function parses. `link_header` parses the seven types about links, which
+    /// `is_any_link_type` names, `read_acknowledgement` NLMSG_ERROR and NLMSG_DONE.
     OtherType { at: usize, kind: u16 },
     /// A message about a link has `length` bytes: fewer than the 32 of `struct nlmsghdr` and `struct ifinfomsg`.
     ShortLink { at: usize, length: usize },

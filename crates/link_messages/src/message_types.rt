@@ -23,3 +23,12 @@ pub const RTM_GETLINK: u16 = 18;
 
 /// A request to change a link.
 pub const RTM_SETLINK: u16 = 19;
+
+/// A request to add properties to a link, such as alternative names.
+pub const RTM_NEWLINKPROP: u16 = 108;
+
+/// A request to remove properties of a link.
+pub const RTM_DELLINKPROP: u16 = 109;
+
+/// A query for properties of a link.
+pub const RTM_GETLINKPROP: u16 = 110;

@@ -1,5 +1,5 @@
 -- The lines of messages are printable.
-use Rattle.std.proofs.Common.{◌≡◌, ℕ, suc, ℤ, pos, negsuc, ◌==◌, Bool, true, List, [], ◌++◌, Option, Some, None, unsigned_abs, refl, sym, subst, codes}
+use Rattle.std.proofs.Common.{◌≡◌, ℕ, suc, ℤ, pos, negsuc, ◌==◌, ◌||◌, Bool, true, List, [], ◌++◌, Option, Some, None, unsigned_abs, refl, sym, subst, codes}
 use Rattle.std.specs.Fmt.{signed_decimal}
 use Rattle.link_base.specs.Number.{IsBytes}
 use Rattle.link_base.specs.WellFormed.{are_names}
@@ -45,11 +45,10 @@ message_error_texts indent error h = error_texts indent (offset_of error) h (rea
 flags_of_text : (kind : ℕ) → EachName (flags_of kind)
 flags_of_text kind =
     let more : (some : List (ℕ × List ℕ)) → are_names (common_flags ++ some) ≡ true → EachName (common_flags ++ some) = λ some h. each_name (common_flags ++ some) h in
-    choose EachName (kind == 16) _ _ (more new_flags refl)
-    (choose EachName (kind == 19) _ _ (more new_flags refl)
-    (choose EachName (kind == 18) _ _ (more get_flags refl)
-    (choose EachName (kind == 17) _ _ (more delete_flags refl)
-    (choose EachName (kind == 2) _ _ (more error_flags refl) (choose EachName (kind == 3) _ _ (more error_flags refl) (each_name common_flags refl))))))
+    choose EachName ((kind == 16) || ((kind == 19) || (kind == 108))) _ _ (more new_flags refl)
+    (choose EachName ((kind == 18) || (kind == 110)) _ _ (more get_flags refl)
+    (choose EachName ((kind == 17) || (kind == 109)) _ _ (more delete_flags refl)
+    (choose EachName ((kind == 2) || (kind == 3)) _ _ (more error_flags refl) (each_name common_flags refl))))
 
 message_line_texts : (m : Message) → AreTexts (message_line m)
 unfolding message_line

@@ -1,11 +1,12 @@
 -- The names in messages (`include/uapi/linux/netlink.h`, `rtnetlink.h`, `if.h`, `if_arp.h`).
-use Rattle.std.specs.Prelude.{ℕ, ◌==◌, List, [], ◌∷◌, ◌++◌, codes, if◌then◌else◌}
+use Rattle.std.specs.Prelude.{ℕ, ◌==◌, ◌||◌, List, [], ◌∷◌, ◌++◌, codes, if◌then◌else◌}
 
 -- types of messages
 abbrev pub message_types : List (ℕ × List ℕ)
 message_types =
     (1, codes "NLMSG_NOOP") ∷ (2, codes "NLMSG_ERROR") ∷ (3, codes "NLMSG_DONE") ∷ (4, codes "NLMSG_OVERRUN") ∷
-    (16, codes "RTM_NEWLINK") ∷ (17, codes "RTM_DELLINK") ∷ (18, codes "RTM_GETLINK") ∷ (19, codes "RTM_SETLINK") ∷ []
+    (16, codes "RTM_NEWLINK") ∷ (17, codes "RTM_DELLINK") ∷ (18, codes "RTM_GETLINK") ∷ (19, codes "RTM_SETLINK") ∷
+    (108, codes "RTM_NEWLINKPROP") ∷ (109, codes "RTM_DELLINKPROP") ∷ (110, codes "RTM_GETLINKPROP") ∷ []
 
 -- flags of all messages, without NLM_F_
 abbrev pub common_flags : List (ℕ × List ℕ)
@@ -32,13 +33,11 @@ error_flags = (256, codes "CAPPED") ∷ (512, codes "ACK_TLVS") ∷ []
 -- the flags of messages of this type
 abbrev pub flags_of : ℕ → List (ℕ × List ℕ)
 flags_of kind =
-    if kind == 16 then common_flags ++ new_flags
-    else (if kind == 19 then common_flags ++ new_flags
-    else (if kind == 18 then common_flags ++ get_flags
-    else (if kind == 17 then common_flags ++ delete_flags
-    else (if kind == 2 then common_flags ++ error_flags
-    else (if kind == 3 then common_flags ++ error_flags
-    else common_flags)))))
+    if (kind == 16) || ((kind == 19) || (kind == 108)) then common_flags ++ new_flags
+    else (if (kind == 18) || (kind == 110) then common_flags ++ get_flags
+    else (if (kind == 17) || (kind == 109) then common_flags ++ delete_flags
+    else (if (kind == 2) || (kind == 3) then common_flags ++ error_flags
+    else common_flags)))
 
 -- address families, with names
 abbrev pub address_families : List (ℕ × List ℕ)

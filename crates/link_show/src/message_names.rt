@@ -6,8 +6,8 @@ ghost use Rattle.link_show.specs.MessageNames.{flags_of};
 
 use link_base::rows::label::Name;
 use link_messages::message_types::{
-    NLMSG_DONE, NLMSG_ERROR, NLMSG_NOOP, NLMSG_OVERRUN, RTM_DELLINK, RTM_GETLINK, RTM_NEWLINK,
-    RTM_SETLINK,
+    NLMSG_DONE, NLMSG_ERROR, NLMSG_NOOP, NLMSG_OVERRUN, RTM_DELLINK, RTM_DELLINKPROP, RTM_GETLINK,
+    RTM_GETLINKPROP, RTM_NEWLINK, RTM_NEWLINKPROP, RTM_SETLINK,
 };
 
 /// Names of types of messages: those of the constants.
@@ -27,6 +27,9 @@ pub const MESSAGE_TYPES: &[Name] = types![
     RTM_DELLINK
     RTM_GETLINK
     RTM_SETLINK
+    RTM_NEWLINKPROP
+    RTM_DELLINKPROP
+    RTM_GETLINKPROP
 ];
 
 /// Flags of all messages (`NLM_F_`, `include/uapi/linux/netlink.h`), and then these.
@@ -79,9 +82,9 @@ pub fn flag_names(kind: u16) -> &'static [Name]
     ensures { names_in result.now ≡ flags_of kind }
 {
     match kind {
-        RTM_NEWLINK | RTM_SETLINK => NEW_FLAGS,
-        RTM_GETLINK => GET_FLAGS,
-        RTM_DELLINK => DELETE_FLAGS,
+        RTM_NEWLINK | RTM_SETLINK | RTM_NEWLINKPROP => NEW_FLAGS,
+        RTM_GETLINK | RTM_GETLINKPROP => GET_FLAGS,
+        RTM_DELLINK | RTM_DELLINKPROP => DELETE_FLAGS,
         NLMSG_ERROR | NLMSG_DONE => ERROR_FLAGS,
         _ => COMMON_FLAGS,
     }

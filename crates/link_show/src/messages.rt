@@ -24,10 +24,10 @@ use crate::replies::write_acknowledgement;
 use crate::sink::Sink;
 use link_base::rows::form::Width;
 use link_base::rows::label::name_of;
-use link_messages::message_types::{
-    NLMSG_DONE, NLMSG_ERROR, RTM_DELLINK, RTM_GETLINK, RTM_NEWLINK, RTM_SETLINK,
+use link_messages::message_types::{NLMSG_DONE, NLMSG_ERROR, RTM_GETLINK};
+use link_messages::{
+    Message, MessageError, any_message, is_any_link_type, link_header, read_acknowledgement,
 };
-use link_messages::{Message, MessageError, any_message, link_header, read_acknowledgement};
 
 /// Writes the lines of the messages of a buffer, up to its end or to an NLMSG_DONE. Zero bytes after a message are one
 /// line, and no error. Returns whether no line is an error, and all lists that are checked are canonical.
@@ -126,9 +126,7 @@ pub fn write_message<W: Sink>(
     write_first_line(writer, message)?;
     match message.kind {
         NLMSG_ERROR | NLMSG_DONE => write_reply(writer, message, options),
-        RTM_NEWLINK | RTM_DELLINK | RTM_GETLINK | RTM_SETLINK => {
-            write_about_link(writer, message, options)
-        }
+        kind if is_any_link_type(kind) => write_about_link(writer, message, options),
         _ => Ok(true),
     }
 }

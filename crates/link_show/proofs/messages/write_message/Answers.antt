@@ -9,8 +9,8 @@ returns-in-2 g c =
     writes_after c.write_reply.result (ShowsBody c.args.options m) (ShowsMessage c.args.options m) _ _ _ _ c.in_ok-write_first_line.ensures
     (λ out well is. record { body = out; is_body = is; joined = refl }) c.write_reply.ensures
 
-pub returns-in-16 : goal.returns-in-16
-returns-in-16 g c =
+pub returns-in_default : goal.returns-in_default
+returns-in_default g c =
     let m = c.args.message.now in
     writes_after c.write_about_link.result (ShowsBody c.args.options m) (ShowsMessage c.args.options m) _ _ _ _ c.in_ok-write_first_line.ensures
     (λ out well is. record { body = out; is_body = is; joined = refl }) c.write_about_link.ensures
