@@ -1,7 +1,7 @@
 #!/bin/sh
-# test.sh [PREFIX]: builds and tests the bindings for Rust and Python with the library that tools/install.sh has
-# installed in the folder PREFIX or, if none is named, in $NLROUTE_PREFIX. Without both, it first installs an unproved
-# build in a temporary folder: four to five minutes more.
+# test.sh [PREFIX]: builds and tests the bindings for Rust and Python, and two examples in C, with the library that
+# tools/install.sh has installed in the folder PREFIX or, if none is named, in $NLROUTE_PREFIX. Without both, it first
+# installs an unproved build in a temporary folder: four to five minutes more.
 #
 # It needs cc. What needs python3 from 3.9 on, cargo, clippy, pip, mypy or pyroute2 is skipped if that is missing, and a
 # line says so. If there is a python3.9, its tests run too. It uses no network.
@@ -57,6 +57,19 @@ python_page() {
     python bindings/python/page.py docs/python.md
 }
 
+# An example prints the requests of manager.txt, as those in the other languages do.
+prints_requests() {
+    "$@" >"$room/requests"
+    cmp "$room/requests" "$top/bindings/manager.txt"
+}
+
+# Runs an example in C, with the headers and the library that are installed.
+in_c() {
+    cc -std=c99 -O1 -Wall -Wextra -Werror -I"$prefix/include" -o "$room/$1" "$top/crates/nlroute_ffi/examples/$1.c" \
+        -L"$prefix/lib" -lnlroute
+    "$room/$1"
+}
+
 # Whether this machine has sockets of that kind.
 netlink() {
     python3 -c 'import socket as s; s.socket(s.AF_NETLINK, s.SOCK_RAW, s.NETLINK_ROUTE)'
@@ -70,7 +83,7 @@ prints_links() {
 types() {
     cd bindings/python
     MYPYPATH=$PWD mypy --strict --cache-dir "$room/mypy" nlroute
-    MYPYPATH=$PWD mypy --strict --cache-dir "$room/mypy" tests/typed.py examples/links.py
+    MYPYPATH=$PWD mypy --strict --cache-dir "$room/mypy" tests/typed.py examples/links.py examples/manager.py
 }
 
 # Installs the package without a library, and imports it with one that is named, and without.
@@ -142,12 +155,15 @@ began=$(date +%s)
 export NLROUTE_LIB_DIR="$prefix/lib" LD_LIBRARY_PATH="$prefix/lib" PKG_CONFIG_PATH="$prefix/lib/pkgconfig"
 export NLROUTE_LIBRARY="$prefix/lib/libnlroute.so" CARGO_TARGET_DIR="$room/target"
 
+check "c: the requests of a manager" prints_requests in_c manager
+check "c: values of other sets are not attributes of the message" in_c marks
 if has "python3 from 3.9 on" python3 -c 'import sys; sys.exit(sys.version_info < (3, 9))'; then
     check "generate.py: the tables are those of the library" bindings/generate.py --check
     check "python: tests" python_tests python3
     if has python3.9 oldest_python; then check "python 3.9: tests" python_tests "$(oldest_python)"; fi
     check "python: doctests" python_doctests
     check "python: the samples of docs/python.md" python_page
+    check "python: the requests of a manager" prints_requests python bindings/python/examples/manager.py
     if has "netlink socket" netlink; then
         check "python: the links of this machine" prints_links python bindings/python/examples/links.py
     fi
@@ -168,6 +184,7 @@ if has cargo cargo --version; then
     check "rust: tests" in_crate env LD_LIBRARY_PATH='' cargo test --offline --quiet
     check "rust: tests with the shared library" shared_crate
     check "rust: the example with typed attributes" prints_typed
+    check "rust: the requests of a manager" prints_requests in_crate cargo run --offline --quiet --example manager
     check "rust: pages of the crate" in_crate env RUSTDOCFLAGS='-D warnings' cargo doc --offline --quiet --no-deps
     if has clippy cargo clippy --version; then
         check "rust: clippy" in_crate cargo clippy --offline --quiet --all-targets -- -D warnings

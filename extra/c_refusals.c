@@ -110,9 +110,12 @@ static size_t requested(struct nlroute_value *values) {
     bool is_port = !is_device && nlroute_from_port_kind(name, strlen(name)) == (ptrdiff_t)family;
     ptrdiff_t count = is_link || is_device || is_port ? nlroute_values(family, list, len, values + 3, MOST / 2) : 0;
     if (count <= 0) return values[0] = nlroute_passed(NLROUTE_IFLA_AF_SPEC, NLROUTE_FORM_HELD, 0, (uint32_t)len), 1;
-    for (size_t i = 3; i < (size_t)count + 3; i++) values[i].depth += is_link ? 0 : 2;
+    for (size_t i = 3; i < (size_t)count + 3; i++) {
+        if (!is_link) values[i].depth += 2;
+        else if (!values[i].depth) values[i] = nlroute_of_message(values[i]);
+    }
     if (is_link) return memmove(values, values + 3, (size_t)count * sizeof *values), (size_t)count;
-    values[0] = nlroute_list(NLROUTE_IFLA_LINKINFO);
+    values[0] = nlroute_linkinfo();
     values[1] = is_device ? nlroute_info_kind(name) : nlroute_port_kind(name);
     values[2] = is_device ? nlroute_info_data() : nlroute_port_data();
     return (size_t)count + 3;

@@ -57,7 +57,7 @@ def of_requests():
     for number, line in enumerate(lines):
         message = bytes.fromhex(line.split("\t")[1])
         yield 0x8F, message
-        yield from ((0x90, bytes([number % 8, field, 1, 0]) + message) for field in range(16))
+        yield from ((0x90, bytes([number % 8, field, 1, 0]) + message) for field in range(19))
         # (the first value has as many bytes as an attribute can have, or one more)
         yield from ((0xA0, bytes([0, 11, 0, 0, 0, 8, size, 0xFF]) + message.ljust(0xFFFC, b"\0")) for size in (0xFB, 0xFC))
     # (type, flags, index, address family and other fields; then a byte for each step of `of_description`, and what it takes)

@@ -108,6 +108,8 @@ class Code(Named):
     NO_INDEX = -12, "the index of the link is 0 or negative"
     BAD_NAME = -13, "Linux does not take the name or kind"
     NO_SET = -14, "no attribute set reads the list of these values"
+    BAD_DEPTH = -15, "the value has a wrong depth, or is not marked as one of the message"
+    REPEATED = -16, "the message has a second list of this type"
 
 
 class BridgeFlags(Named):

@@ -2,7 +2,7 @@
 from __future__ import annotations
 
 from operator import index as whole_number
-from typing import Any, overload
+from typing import Any, NamedTuple, overload
 
 from . import _library
 from ._errors import WriteError
@@ -13,12 +13,29 @@ from ._records import REQUEST, VALUE
 from ._types import Key, Mac, T
 from ._write import Values, Writer
 
-RTM_NEWLINK, RTM_DELLINK, RTM_GETLINK, RTM_SETLINK = 16, 17, 18, 19
-NLM_F_ACK, NLM_F_DUMP, NLM_F_CREATE_EXCL = 4, 0x300, 0x600
+RTM_NEWLINK, RTM_DELLINK, RTM_GETLINK, RTM_SETLINK, RTM_NEWLINKPROP, RTM_DELLINKPROP = 16, 17, 18, 19, 108, 109
+NLM_F_ACK, NLM_F_DUMP, NLM_F_CREATE_EXCL, NLM_F_APPEND = 4, 0x300, 0x600, 0x800
 AF_BRIDGE, IFF_UP = 7, 1
 IFLA_PROTINFO, IFLA_LINKINFO, IFLA_AF_SPEC = 12, 18, 26
 INFO_KIND, INFO_DATA, INFO_SLAVE_KIND, INFO_SLAVE_DATA = 1, 2, 4, 5
 INLINE = (1 << 64) - 1  # the offset of a value after which the values of its list follow
+OF_MESSAGE = 0xFFFF  # the field `inner` of a value that is an attribute of the message
+
+
+class Holder(NamedTuple):
+    """What holds options: an attribute of the message or, with `inner`, an element of its IFLA_LINKINFO."""
+
+    name: str
+    kind: int
+    inner: int = 0
+
+
+MESSAGE = Holder("", 0)  # the message itself
+AF_SPEC, PROTINFO = Holder("IFLA_AF_SPEC", IFLA_AF_SPEC), Holder("IFLA_PROTINFO", IFLA_PROTINFO)
+DATA = Holder("IFLA_INFO_DATA", IFLA_LINKINFO, INFO_DATA)
+PORT_DATA = Holder("IFLA_INFO_SLAVE_DATA", IFLA_LINKINFO, INFO_SLAVE_DATA)
+# The set of the port data that an IFLA_INFO_KIND announces. With these two kinds, iproute2 sends no IFLA_INFO_SLAVE_KIND.
+ANNOUNCED = {"bond_slave": Family.BOND_PORT, "bridge_slave": Family.BRIDGE_PORT}
 
 
 class Request:
@@ -33,8 +50,8 @@ class Request:
     >>> bytes(Request.change(3).master(7).up())[32:].hex()
     '08000a0007000000'
 
-    Raises WriteError if an attribute or element cannot be written, with its name and its index in its list. Of an error in
-    the header, the name is that of the field.
+    Raises WriteError if an attribute or element cannot be written, with its name and its index: that of options in the list
+    that was passed, that of other attributes in the message. Of an error in the header, the name is that of the field.
 
     >>> bytes(Request.delete(0))
     Traceback (most recent call last):
@@ -90,6 +107,19 @@ class Request:
         """Deletes VLANs of the bridge or bridge port with this index: RTM_DELLINK of AF_BRIDGE. The link stays."""
         return cls(RTM_DELLINK, NLM_F_ACK, index, AF_BRIDGE)
 
+    @classmethod
+    def property(cls, index: int) -> Request:
+        """Adds properties to the link with this index: RTM_NEWLINKPROP with NLM_F_CREATE, NLM_F_EXCL and NLM_F_APPEND.
+
+        They are in an IFLA_PROP_LIST: `set("IFLA_PROP_LIST", {"IFLA_ALT_IFNAME": "uplink"})` adds an alternative name.
+        """
+        return cls(RTM_NEWLINKPROP, NLM_F_ACK | NLM_F_CREATE_EXCL | NLM_F_APPEND, index)
+
+    @classmethod
+    def property_delete(cls, index: int) -> Request:
+        """Deletes properties of the link with this index: RTM_DELLINKPROP."""
+        return cls(RTM_DELLINKPROP, NLM_F_ACK, index)
+
     def up(self, is_up: bool = True) -> Request:
         """Sets the link up, or down (IFF_UP)."""
         self.link_flags = self.link_flags & ~IFF_UP | (IFF_UP if is_up else 0)
@@ -121,7 +151,11 @@ class Request:
     @overload
     def set(self, name: str, value: Any) -> Request: ...
     def set(self, name: Any, value: Any) -> Request:
-        """Appends an attribute of the message. Raises KeyError if there is none of this name."""
+        """Appends an attribute of the message. Raises KeyError if there is none of this name.
+
+        A message has one IFLA_LINKINFO, one IFLA_AF_SPEC and one IFLA_PROTINFO (`type 12`): each is set here, or made from
+        options and kind. A second one cannot be written (Code.REPEATED).
+        """
         self._attributes.append(name, value)
         return self
 
@@ -129,7 +163,7 @@ class Request:
         """Sets the kind of the device (IFLA_INFO_KIND), such as "dummy".
 
         Options have a kind of their own: set it for another one with the same options, such as "macvtap", or "bridge_slave"
-        for those of a port.
+        for those of a port. Options of another set than that of the kind cannot be written (Code.NO_SET).
         """
         self._kind = kind
         return self
@@ -141,9 +175,22 @@ class Request:
     def options(self, options: Any, values: Values = ()) -> Request:
         """Sets options: of a device, of a port or, for bridge(), of AF_BRIDGE. The attribute set tells which.
 
-        An empty list of a device's options sets its kind only.
+        Lists of the same set are joined, in order. Options of a device and options of a port are beside each other; those of
+        two devices' sets, or of two ports' sets, cannot be written (Code.NO_SET). Nor can they in AF_BRIDGE, where Linux
+        ignores them. An empty list of a device's options sets its kind only.
+
+        >>> from nlroute import *
+        >>> request = Request.change(3).options(Family.BOND, {IFLA_BOND_MIIMON: 200})
+        >>> request = request.options(Family.BRIDGE_PORT, {IFLA_BRPORT_COST: 44})
+        >>> bytes(request.options(Family.BOND, {IFLA_BOND_RESEND_IGMP: 2}))[44:64].hex(" ", 4)
+        '14000200 08000300 c8000000 08000f00 02000000'
         """
-        self._options.append(options if isinstance(options, List) else List(options, values))
+        if isinstance(options, List) and values:
+            raise TypeError("options in a List take no further values")
+        lists = options if isinstance(options, List) else List(options, values)
+        if lists._table.list_row:
+            raise TypeError(f"{lists._table.title} is not a whole list: it is the value of an attribute")
+        self._options.append(List._of(lists._table, list(lists._items)))  # (as it is now)
         return self
 
     def __bytes__(self) -> bytes:
@@ -151,32 +198,56 @@ class Request:
         parts = Parts(self._head())
         parts.add_list(self._attributes, 0)
         for options in self._options:
-            self._add(parts, options)
-        if self._kind is not None and not parts.has_kind:
-            parts.add_kind("IFLA_INFO_KIND", INFO_KIND, self._kind)
+            family, holder = options.family, self._holder(options.family)
+            if holder is None:
+                raise WriteError(str(family), 0, Code.NO_SET)
+            if holder == MESSAGE:
+                parts.add_list(options, 0)
+            elif holder.kind in parts.held:
+                continue  # (the first options of this list were joined with these)
+            elif holder.inner:
+                self._add_info(parts)
+            elif len(options):
+                parts.add_held(holder, self._held(holder), family)
+        if self._kind is not None and IFLA_LINKINFO not in parts.held:
+            self._add_info(parts)
         return parts.write()
 
-    def _add(self, parts: Parts, options: List) -> None:
-        """Adds the list that holds options."""
-        family, is_bridge = options.family, self.address_family == AF_BRIDGE
+    def _holder(self, family: Family) -> Holder | None:
+        """Returns what holds the options of a set, or None if the request has no place for them."""
+        is_bridge = self.address_family == AF_BRIDGE
         if family == Family.LINK:
-            parts.add_list(options, 0)
-        elif family == (Family.AF_SPEC_BRIDGE if is_bridge else Family.AF_SPEC):
-            parts.add_list(options, 1, ("IFLA_AF_SPEC", IFLA_AF_SPEC, 0))
-        elif family == Family.BRIDGE_PORT and is_bridge:
-            parts.add_list(options, 1, ("IFLA_PROTINFO", IFLA_PROTINFO, 0))
-        elif is_device(family):
-            parts.add_kind("IFLA_INFO_KIND", INFO_KIND, str(family) if self._kind is None else self._kind)
-            parts.add_list(options, 2, ("IFLA_INFO_DATA", IFLA_LINKINFO, INFO_DATA))
-        else:
-            kind = str(family).removesuffix("_port")
-            if from_port_kind(kind) != family:
-                raise WriteError(family.name, 0, Code.NO_SET)
-            if self._kind is None:
-                parts.add_kind("IFLA_INFO_SLAVE_KIND", INFO_SLAVE_KIND, kind)
-            else:
-                parts.add_kind("IFLA_INFO_KIND", INFO_KIND, self._kind)
-            parts.add_list(options, 2, ("IFLA_INFO_SLAVE_DATA", IFLA_LINKINFO, INFO_SLAVE_DATA))
+            return MESSAGE
+        if family == (Family.AF_SPEC_BRIDGE if is_bridge else Family.AF_SPEC):
+            return AF_SPEC
+        if is_bridge:
+            return PROTINFO if family == Family.BRIDGE_PORT else None
+        if from_info_kind(str(family)) == family:
+            return DATA
+        return PORT_DATA if from_port_kind(port_kind(family)) == family else None
+
+    def _held(self, holder: Holder) -> list[List]:
+        """Returns the lists of options that are joined in it."""
+        return [it for it in self._options if self._holder(it.family) == holder]
+
+    def _add_info(self, parts: Parts) -> None:
+        """Adds the IFLA_LINKINFO: kind and data of the device, then those of the port."""
+        data, port_data = self._held(DATA), self._held(PORT_DATA)
+        kind = str(data[0].family) if data and self._kind is None else self._kind
+        parts.add("IFLA_LINKINFO", IFLA_LINKINFO, 0, 0, Form.LIST)
+        if kind is not None:
+            parts.add_kind("IFLA_INFO_KIND", INFO_KIND, kind)
+            reader = from_info_kind(kind.removesuffix("\0"))
+            if data and reader is None and not any(map(len, data)):
+                reader = data[0].family  # (a kind that has no set may have options without values)
+            parts.add_held(DATA, data, reader)
+        if port_data:
+            family = port_data[0].family
+            announced = None if self._kind is None else ANNOUNCED.get(self._kind.removesuffix("\0"))
+            # (a kind that was set is enough if it announces the set, or if there are no data)
+            if self._kind is None or (announced is None and any(map(len, port_data))):
+                parts.add_kind("IFLA_INFO_SLAVE_KIND", INFO_SLAVE_KIND, port_kind(family))
+            parts.add_held(PORT_DATA, port_data, family if announced is None else announced)
 
     def _head(self) -> bytes:
         """Returns the `struct nlroute_head`."""
@@ -190,9 +261,9 @@ class Request:
         return REQUEST.pack(kind, flags, sequence, port, address_family, 0, 0, index, link_flags, change)
 
 
-def is_device(family: Family) -> bool:
-    """Returns whether a set is that of the devices of a kind, which has its name."""
-    return from_info_kind(str(family)) == family
+def port_kind(family: Family) -> str:
+    """Returns the kind of the ports that have a set."""
+    return str(family).removesuffix("_port")
 
 
 class Parts:
@@ -204,39 +275,56 @@ class Parts:
         self.octets = bytearray()
         self.owners: list[tuple[int, str]] = []
         self.attributes = 0
-        self.has_kind = False
+        self.held: set[int] = set()  # types of the attributes of the message that hold options
 
-    def add_list(self, items: List, depth: int, holder: tuple[str, int, int] | None = None) -> None:
+    def add_list(self, items: List, depth: int, holder: Holder | None = None) -> None:
         """Adds the values of a list, after the attribute or element that holds them, if there are any.
 
         Raises as bytes() does.
         """
         writer = Writer(items._table)
-        if writer.add_all(items._items):
-            self.write()  # (a value before the list may have an error, and another one in it)
-            bytes(items)
+        error = writer.add_all(items._items)
         if holder and writer.records:
             self.add(*holder, depth - 1, Form.HELD, INLINE)
         start, first = len(self.octets), self.attributes if depth == 0 else 0
         for raw in writer.records:
             kind, inner, flags, form, own, second, length, number, offset, octets = VALUE.unpack(raw)
+            if depth + own == 0:
+                inner = OF_MESSAGE
             moved = kind, inner, flags, form, own + depth, second, length, number, offset + start, octets
             self.records.append(VALUE.pack(*moved))
         self.octets += writer.octets
         self.owners += [(index + first, name) for index, name in writer.owners]
         self.attributes += len(items) if depth == 0 else 0
+        if error:
+            self.write()  # (a value before it may have another error)
+            raise WriteError(error.name, error.index + first, error.code)
+
+    def add_held(self, holder: Holder, lists: list[List], family: Family | None) -> None:
+        """Adds the values of lists, joined, after the attribute or element that holds them, if there are any.
+
+        Raises as bytes() does, also if a list has another set than `family`, which reads the values.
+        """
+        if any(it.family != family for it in lists):
+            self.write()  # (a value before the lists may have an error)
+            raise WriteError(holder.name, self.attributes - 1, Code.NO_SET)
+        first: Holder | None = holder
+        for items in filter(len, lists):
+            self.add_list(items, 2 if holder.inner else 1, first)
+            first = None
 
     def add(self, name: str, kind: int, inner: int, depth: int, form: int, offset: int = 0, length: int = 0) -> None:
         """Adds a record of the message."""
-        self.attributes += depth == 0
+        if depth == 0:
+            self.attributes += 1
+            self.held.add(kind)
+            inner = OF_MESSAGE
         self.records.append(VALUE.pack(kind, inner, 0, form, depth, 0, length, 0, offset, b""))
         self.owners.append((self.attributes - 1, name))
 
     def add_kind(self, name: str, inner: int, kind: str) -> None:
-        """Adds an IFLA_LINKINFO with a kind."""
+        """Adds a kind to the IFLA_LINKINFO."""
         words = kind.encode(errors="surrogateescape")
-        self.has_kind = True
-        self.add("IFLA_LINKINFO", IFLA_LINKINFO, 0, 0, Form.LIST)
         self.add(name, IFLA_LINKINFO, inner, 1, Form.TEXT, len(self.octets), len(words))
         self.octets += words
 

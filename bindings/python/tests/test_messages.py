@@ -101,6 +101,22 @@ class Messages(unittest.TestCase):
         (it,) = messages(link(attribute(12, attribute(1, b"\3")), address_family=7))
         self.assertEqual([family for family, _ in it.lists()], [Family.LINK])
 
+    def test_properties(self):
+        # IFLA_PROP_LIST (52) with NLA_F_NESTED: two IFLA_ALT_IFNAME (53)
+        names = attribute(52 | 0x8000, attribute(53, b"second\0") + attribute(53, b"third\0"))
+        for kind in 108, 109, 110:
+            (it,) = messages(link(names, kind))
+            self.assertEqual((it.type, it.is_link, it.index, it.link_flags, it.payload), (kind, True, 9, 1, names))
+            ((family, items),) = it.lists()
+            self.assertEqual((family, items), (Family.LINK, it.attributes))
+            self.assertEqual([str(name) for _, name in items[IFLA_PROP_LIST]], ["second", "third"])
+            found = it.to_dict()
+            self.assertEqual((found["index"], found["attributes"]), (9, {"IFLA_PROP_LIST": {"IFLA_ALT_IFNAME": ["second", "third"]}}))
+            again = Request(kind, 0, 9).options(items)
+            if kind != 110:
+                self.assertEqual(bytes(again)[32:], names)
+        self.assertEqual([it.is_link for kind in (107, 111) for it in messages(link(names, kind))], [False, False])
+
     def test_peer(self):
         # the data of a veth: VETH_INFO_PEER (1) has a struct ifinfomsg of AF_BRIDGE, IFLA_IFNAME (3) and IFLA_AF_SPEC (26)
         header = struct.pack("=BxHiII", 7, 0, 5, 0, 0)
@@ -149,6 +165,7 @@ class Messages(unittest.TestCase):
             (LINK + bytes(16), len(LINK), Cause.SMALL_LENGTH, (0, 0), f"error at {len(LINK)}: nlmsg_len 0 is below 16"),
             (DONE[:19], 0, Cause.OVERRUN, (20, 19), "error at 0: nlmsg_len 20 exceeds the 19 bytes left"),
             (message(16, bytes(8)), 0, Cause.TOO_SHORT, (32, 24), "error at 0: 24 bytes, too few for a link message"),
+            (message(110, b"\0"), 0, Cause.TOO_SHORT, (32, 17), "error at 0: 17 bytes, too few for a link message"),
         ]
         for data, at, cause, numbers, words in rows:
             with self.assertRaises(MessageFault) as caught:

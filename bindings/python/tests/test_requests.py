@@ -1,11 +1,13 @@
 """Requests about links, byte for byte as iproute2 6.1 sends them, and requests that cannot be written."""
 import ctypes
 import os
+import struct
 import unittest
 
 from nlroute import *
 from nlroute import _library, _records, _request
 from nlroute._kinds import Form
+from nlroute._tables import TABLES
 
 HERE = os.path.dirname(os.path.abspath(__file__))
 B, P = Family.BRIDGE, Family.BRIDGE_PORT
@@ -22,6 +24,22 @@ def change(index=3):
 
 def bridge_dump():
     return Request(18, 0x300, 0, address_family=7)
+
+
+def attribute(kind, *payload):
+    """Returns an attribute: nla_len and nla_type, the payload in parts, and padding."""
+    payload = b"".join(payload)
+    return struct.pack("=HH", 4 + len(payload), kind) + payload + bytes(-len(payload) % 4)
+
+
+def number(kind, value):
+    """Returns an attribute that is a u32."""
+    return attribute(kind, struct.pack("=I", value))
+
+
+def peer(**values):
+    """Returns a VETH_INFO_PEER: a struct ifinfomsg of zeros, and attributes of the other link."""
+    return bytes(16) + bytes(List(Family.LINK, values))
 
 
 TIMING = CanBitTiming(500000, 0, 0, 0, 0, 0, 0, 0)
@@ -131,7 +149,7 @@ REQUESTS = [
     change().set("IFLA_IFALIAS", b"upstream"),
     Request.delete(3),
     Request.delete(4).kind("bridge"),
-    Request(108, 0xE04, 3).set("IFLA_PROP_LIST", {"IFLA_ALT_IFNAME": "another"}),
+    Request.property(3).set("IFLA_PROP_LIST", {"IFLA_ALT_IFNAME": "another"}),
     Request.bridge(3)
     .options(
         P,
@@ -180,7 +198,26 @@ REQUESTS = [
     make().link(3).named("mv0").options(Family.MACVLAN, {"IFLA_MACVLAN_MODE": 4}),
     make("vr0").options(Family.VRF, {"IFLA_VRF_TABLE": 10}),
     make("e0").options(Family.VETH, {"VETH_INFO_PEER": bytes(16) + bytes.fromhex("0700030065310000")}),
+    make()
+    .mtu(1400)
+    .named("e0")
+    .options(
+        Family.VETH,
+        {"VETH_INFO_PEER": peer(IFLA_MTU=1300, IFLA_ADDRESS=bytes(Mac("02:00:00:00:00:01")), IFLA_IFNAME="e1")},
+    ),
+    Request.property(18).set("IFLA_PROP_LIST", {"IFLA_ALT_IFNAME": "enp2s0f0np0"}),
+    Request.property(18).set("IFLA_PROP_LIST", [("IFLA_ALT_IFNAME", "second"), ("IFLA_ALT_IFNAME", "third")]),
+    Request.property_delete(18).set("IFLA_PROP_LIST", {"IFLA_ALT_IFNAME": "enp2s0f0np0"}),
 ]
+
+# An IFLA_LINKINFO of a bond with IFLA_BOND_MIIMON 150, which is a bridge port with IFLA_BRPORT_COST 44.
+BOTH_INFO = attribute(
+    18, attribute(1, b"bond"), attribute(2, number(3, 150)), attribute(4, b"bridge"), attribute(5, number(3, 44))
+)
+BOND = List(Family.BOND, {"IFLA_BOND_MIIMON": 150})
+PORT = List(P, {"IFLA_BRPORT_COST": 44})
+LINK_INFO = {"IFLA_INFO_KIND": "bond"}
+LINK = List(Family.LINK)
 
 
 class Requests(unittest.TestCase):
@@ -259,7 +296,7 @@ class Requests(unittest.TestCase):
             (Request.change(1).mtu(1 << 32).options(port), "IFLA_MTU", 0, Code.BAD_NUMBER),
             (Request.change(1).mtu(9).named("a b").options(bond), "IFLA_IFNAME", 1, Code.BAD_NAME),
             (Request.change(1).set("IFLA_IFALIAS", "x" * 65531), "IFLA_IFALIAS", 0, Code.TOO_LONG),
-            (Request.change(1).options(Family.INET6), "INET6", 0, Code.NO_SET),
+            (Request.change(1).options(Family.INET6), "inet6", 0, Code.NO_SET),
             (Request.create("a").kind("zz9").options(bond), "IFLA_INFO_DATA", 1, Code.NO_SET),
         ]
         for request, name, index, code in rows:
@@ -303,7 +340,251 @@ class Requests(unittest.TestCase):
         self.assertEqual(bytes(change().set("IFLA_PROP_LIST", {}))[32:].hex(), "04003480")
         self.assertEqual(bytes(change().mtu(1).mtu(2))[32:].hex(), "08000400010000000800040002000000")
         vlan = List(Family.VLAN, {"IFLA_VLAN_ID": 5})
-        self.assertEqual(len(bytes(change().options(vlan).options(vlan))), 32 + 2 * 24)
+        self.assertEqual(len(bytes(change().options(vlan).options(vlan))), 32 + 16 + 2 * 8)
+
+    def test_every_attribute_of_the_message(self):
+        """Numbers, lists, structs, texts and bytes: each can be set, and a message with all of them can be sent again."""
+        contents = {Form.EMPTY: None, Form.BOOL: True, Form.TEXT: b"x\0", Form.BYTES: b"\1", Form.HELD: b"", Form.LIST: []}
+        request = change()
+        for row in TABLES[Family.LINK].by_kind.values():
+            content = bytes(32) if row.name == "IFLA_MAP" else contents.get(row.form, 1)
+            single = change().set(row.name, content)
+            (it,) = messages(bytes(single))
+            self.assertEqual(it.attributes.keys(), [row.name])
+            self.assertEqual(bytes(change().options(it.attributes)), bytes(single))
+            request.set(row.name, content)
+        request.set("IFLA_MAP", bytes(range(32))).set("IFLA_STATS64", [1, 2]).set("type 999", Unknown(b"\1\2", 0x8000))
+        request.set("IFLA_PROP_LIST", [("IFLA_ALT_IFNAME", "second"), ("IFLA_ALT_IFNAME", "third")])
+        (it,) = messages(bytes(request))
+        self.assertEqual(len(it.attributes), len(TABLES[Family.LINK].by_kind) + 4)
+        self.assertEqual(it.payload, bytes(it.attributes))
+        self.assertEqual(bytes(change().options(it.attributes)), bytes(request))
+        again = change()
+        for name, value in it.attributes:
+            again.set(name, value)
+        self.assertEqual(bytes(again), bytes(request))
+
+    def test_a_message_is_sent_again(self):
+        """Attributes that were read are written with their bytes, also the lists in them."""
+        spec = attribute(26, attribute(10, attribute(8, b"\1")))
+        for attributes in (
+            attribute(3, b"b0\0") + number(4, 1500) + BOTH_INFO + spec,
+            attribute(18, attribute(1, b"veth\0"), attribute(2, attribute(1, bytes(16), number(4, 1300)))),
+            attribute(52 | 0x8000, attribute(53, b"enp2s0f0np0\0")) + attribute(14, bytes(32)) + attribute(23, bytes(96)),
+        ):
+            (it,) = messages(bytes(change())[:32].replace(b"\x20", bytes([32 + len(attributes)]), 1) + attributes)
+            self.assertEqual(bytes(change().options(it.attributes))[32:], attributes)
+            self.assertEqual(bytes(change().up().options(it.attributes).mtu(9))[32:], number(4, 9) + attributes)
+        attributes = attribute(12 | 0x8000, number(3, 44)) + attribute(26, attribute(2, b"\0\0\x0a\0"))
+        request = Request.bridge(3).options(List.read(Family.LINK, attributes))
+        self.assertEqual(bytes(request)[32:], attributes)
+
+
+class OneOfEach(unittest.TestCase):
+    """A message has one IFLA_LINKINFO, one IFLA_AF_SPEC and one IFLA_PROTINFO."""
+
+    def refused(self, request, name, index, code):
+        with self.assertRaises(WriteError, msg=name) as caught:
+            bytes(request)
+        error = caught.exception
+        self.assertEqual((error.name, error.index, error.code), (name, index, code))
+
+    def test_device_and_port(self):
+        """Their data are beside each other, that of the device first."""
+        for request in (
+            change().options(BOND).options(PORT),
+            change().options(PORT).options(BOND),
+            change().options(BOND).options(PORT).kind("bond"),
+            change().options(PORT).options(BOND).options(P).options(Family.BOND),
+            change().options(LINK).options(BOND).options(PORT),
+        ):
+            self.assertEqual(bytes(request)[32:], BOTH_INFO)
+        self.assertEqual(str(next(messages(bytes(change().options(BOND).options(PORT)))).held(P)), "IFLA_BRPORT_COST 44")
+
+        port = attribute(4, b"bridge"), attribute(5, number(3, 44))
+        rows = [
+            # a kind of a device without data
+            (change().kind("dummy").options(PORT), (attribute(1, b"dummy"), *port)),
+            (change().kind("bridge").options(PORT), (attribute(1, b"bridge"), *port)),
+            (change().options(Family.BOND).options(PORT), (attribute(1, b"bond"), *port)),
+            # another kind with the same set
+            (
+                change().kind("macvtap").options(PORT).options(Family.MACVLAN, {"IFLA_MACVLAN_MODE": 4}),
+                (attribute(1, b"macvtap"), attribute(2, number(1, 4)), *port),
+            ),
+            # a kind that announces the set of port data
+            (change().kind("bridge_slave").options(PORT), (attribute(1, b"bridge_slave"), port[1])),
+            # a port without data
+            (change().options(P), (attribute(4, b"bridge"),)),
+            (change().options(BOND).options(P), (attribute(1, b"bond"), attribute(2, number(3, 150)), attribute(4, b"bridge"))),
+            (change().kind("bridge_slave").options(P), (attribute(1, b"bridge_slave"),)),
+            (change().kind("dummy").options(P), (attribute(1, b"dummy"),)),
+            # a kind that has no set, and options without values
+            (change().kind("dummy").options(Family.BOND), (attribute(1, b"dummy"),)),
+            (change().kind("dummy").options(Family.BOND).options(PORT), (attribute(1, b"dummy"), *port)),
+        ]
+        for request, parts in rows:
+            self.assertEqual(bytes(request)[32:], attribute(18, *parts))
+
+    def test_joined(self):
+        """Lists of one set become one list, in order, at the place of the first."""
+        igmp, priority = List(Family.BOND, {"IFLA_BOND_RESEND_IGMP": 2}), List(P, {"IFLA_BRPORT_PRIORITY": 3})
+        device = attribute(2, number(3, 150), number(15, 2), number(3, 150))
+        port = attribute(5, number(3, 44), attribute(2, b"\3\0"))
+        ports = number(3, 44) + attribute(2, b"\3\0")
+        vlans = attribute(2, b"\6\0\x0a\0"), attribute(2, b"\0\0\x14\0")
+        first, second = ((Family.AF_SPEC_BRIDGE, {"IFLA_BRIDGE_VLAN_INFO": it}) for it in ((10, 6), (20, 0)))
+        mtu = List(Family.LINK, {"IFLA_MTU": 9})
+        info = attribute(18, attribute(1, b"bond"), attribute(2, number(3, 150), number(15, 2)))
+        inet, inet6 = {"AF_INET": b""}, {"AF_INET6": attribute(8, b"\1")}
+        rows = [
+            (change().options(BOND).options(igmp).options(BOND), attribute(18, attribute(1, b"bond"), device)),
+            (change().options(PORT).options(priority), attribute(18, attribute(4, b"bridge"), port)),
+            (change().kind("bridge_slave").options(PORT).options(priority), attribute(18, attribute(1, b"bridge_slave"), port)),
+            (
+                change().options(BOND).options(PORT).options(igmp).options(priority).options(BOND),
+                attribute(18, attribute(1, b"bond"), device, attribute(4, b"bridge"), port),
+            ),
+            (change().options(Family.BOND).options(BOND), attribute(18, attribute(1, b"bond"), attribute(2, number(3, 150)))),
+            (
+                change().options(Family.AF_SPEC, inet).options(Family.AF_SPEC, inet6),
+                attribute(26, attribute(2), attribute(10, attribute(8, b"\1"))),
+            ),
+            (
+                Request.bridge(3).options(*first).options(PORT).options(*second).options(priority),
+                attribute(26, *vlans) + attribute(12 | 0x8000, ports),
+            ),
+            # other attributes stay where they are; a list without values has no place
+            (
+                change().options(Family.AF_SPEC).options(BOND).options(mtu).options(Family.AF_SPEC, inet).options(igmp).mtu(8),
+                number(4, 8) + info + number(4, 9) + attribute(26, attribute(2)),
+            ),
+        ]
+        for request, attributes in rows:
+            self.assertEqual(bytes(request)[32:].hex(" ", 4), attributes.hex(" ", 4))
+
+    def test_other_sets(self):
+        """Options of two devices, or of two ports, are no list. The name is that of the list that would have both."""
+        vlan, port = List(Family.VLAN, {"IFLA_VLAN_ID": 5}), List(Family.BOND_PORT, {"IFLA_BOND_SLAVE_PRIO": 1})
+        data, port_data = "IFLA_INFO_DATA", "IFLA_INFO_SLAVE_DATA"
+        rows = [
+            (change().options(BOND).options(vlan), data, 0),
+            (change().options(vlan).mtu(9).options(BOND), data, 1),
+            (change().options(BOND).options(Family.VLAN), data, 0),
+            (change().options(Family.BOND).options(Family.VLAN), data, 0),
+            (change().options(BOND).options(PORT).options(vlan), data, 0),
+            (change().options(PORT).options(port), port_data, 0),
+            (change().options(port).options(BOND).options(P), port_data, 0),
+            (change().mtu(9).kind("bridge_slave").options(PORT).options(port), port_data, 1),
+            (Request.bridge(3).options(PORT).options(BOND).options(vlan), "bond", 0),
+        ]
+        for request, name, index in rows:
+            self.refused(request, name, index, Code.NO_SET)
+
+    def test_kind_and_options(self):
+        """The set of options is the one that reads data of the kind."""
+        geneve, macvlan = List(Family.GENEVE, {"IFLA_GENEVE_ID": 5}), List(Family.MACVLAN, {"IFLA_MACVLAN_MODE": 4})
+        port = List(Family.BOND_PORT, {"IFLA_BOND_SLAVE_PRIO": 1})
+        data, port_data = "IFLA_INFO_DATA", "IFLA_INFO_SLAVE_DATA"
+        rows = [
+            (change().kind("vxlan").options(geneve), data),
+            (change().options(geneve).kind("vxlan"), data),
+            (change().kind("vxlan").options(Family.GENEVE), data),
+            (change().kind("dummy").options(BOND), data),
+            (change().kind("dummy").options(Family.BOND).options(BOND), data),
+            (change().kind("dummy").options(Family.BOND).options(Family.VLAN), data),
+            (change().kind("bond_port").options(BOND), data),
+            (change().kind("macvtap").options(macvlan).options(BOND), data),
+            (change().kind("bridge_slave").options(BOND).options(PORT), data),
+            (change().kind("bond_slave").options(PORT), port_data),
+            (change().kind("bond_slave").options(P), port_data),
+            (change().kind("bridge_slave").options(port), port_data),
+        ]
+        for request, name in rows:
+            self.refused(request, name, 0, Code.NO_SET)
+        for kind, options in (
+            ("geneve", geneve),
+            ("macvlan", macvlan),
+            ("macvtap", macvlan),
+            ("bond\0", BOND),
+            ("vxcan", List(Family.VETH, {"VETH_INFO_PEER": bytes(16)})),
+        ):
+            info = attribute(18, attribute(1, kind.encode()), attribute(2, bytes(options)))
+            self.assertEqual(bytes(change().kind(kind).options(options))[32:], info)
+
+    def test_set_beside_options(self):
+        """What would be the second of these attributes is refused, with its index in the message."""
+        spec = List(Family.AF_SPEC, {"AF_INET": b""})
+        vlans = List(Family.AF_SPEC_BRIDGE, {"IFLA_BRIDGE_VLAN_INFO": (10, 0)})
+        info, protinfo = List(Family.LINK, {"IFLA_LINKINFO": LINK_INFO}), List(Family.LINK, {"type 12": Unknown(b"", 0x8000)})
+        rows = [
+            (change().set("IFLA_LINKINFO", LINK_INFO).options(BOND), "IFLA_LINKINFO", 1),
+            (change().options(BOND).set("IFLA_LINKINFO", LINK_INFO), "IFLA_LINKINFO", 1),
+            (change().mtu(9).set("IFLA_LINKINFO", {}).options(PORT), "IFLA_LINKINFO", 2),
+            (change().set("IFLA_LINKINFO", LINK_INFO).kind("bond"), "IFLA_LINKINFO", 1),
+            (change().set("IFLA_LINKINFO", LINK_INFO).set("IFLA_LINKINFO", LINK_INFO), "IFLA_LINKINFO", 1),
+            (change().options(BOND).options(info), "IFLA_LINKINFO", 1),
+            (change().options(info).kind("dummy"), "IFLA_LINKINFO", 1),
+            (change().options(info).options(info), "IFLA_LINKINFO", 1),
+            (change().set("IFLA_AF_SPEC", b"").options(spec), "IFLA_AF_SPEC", 1),
+            (change().options(spec).options(Family.LINK, {"IFLA_MTU": 9, "IFLA_AF_SPEC": b""}), "IFLA_AF_SPEC", 2),
+            (Request.bridge(3).set("IFLA_AF_SPEC", b"").options(vlans), "IFLA_AF_SPEC", 1),
+            (Request.bridge(3).set("type 12", Unknown(b"", 0x8000)).options(PORT), "IFLA_PROTINFO", 1),
+            (Request.bridge(3).options(PORT).options(protinfo), "type 12", 1),
+            (change().options(protinfo).options(protinfo), "type 12", 1),
+        ]
+        for request, name, index in rows:
+            self.refused(request, name, index, Code.REPEATED)
+        # options without values need no attribute
+        self.assertEqual(bytes(change().set("IFLA_AF_SPEC", b"").options(Family.AF_SPEC))[32:], attribute(26))
+        self.assertEqual(bytes(Request.bridge(3).options(protinfo).options(P))[32:], attribute(12 | 0x8000))
+        # and other attributes may repeat
+        self.assertEqual(len(bytes(change().options(Family.LINK, {"IFLA_MTU": 1}).mtu(2))), 32 + 16)
+
+    def test_first_error(self):
+        """The first value that cannot be written is found, with its index in the list that was passed, or in the message."""
+        high, higher = ({"IFLA_BOND_MODE": 4, "IFLA_BOND_UPDELAY": 1 << bits} for bits in (32, 64))
+        long, updelay = {"type 999": Unknown(bytes(40000), 0)}, ("IFLA_BOND_UPDELAY", 1, Code.BAD_NUMBER)
+        vlan = List(Family.VLAN, {"IFLA_VLAN_ID": 5})
+        rows = [
+            (change().options(BOND).options(Family.BOND, high), *updelay),
+            (change().options(BOND).options(Family.BOND, higher), *updelay),
+            (change().options(Family.BOND, higher).options(Family.BOND, high), *updelay),
+            (change().mtu(9).options(Family.LINK, {"IFLA_MTU": 1 << 32}), "IFLA_MTU", 1, Code.BAD_NUMBER),
+            (change().mtu(9).options(Family.LINK, {"IFLA_MTU": 1 << 64}), "IFLA_MTU", 1, Code.BAD_NUMBER),
+            (change().named("a b").mtu(1 << 64), "IFLA_IFNAME", 0, Code.BAD_NAME),
+            (change().options(P, {"IFLA_BRPORT_COST": 1 << 32}).options(BOND), "IFLA_BRPORT_COST", 0, Code.BAD_NUMBER),
+            (change().options(BOND).options(Family.BOND, [("IFLA_BOND_MODE", 256)]), "IFLA_BOND_MODE", 0, Code.BAD_NUMBER),
+            # the two lists are too long together
+            (change().mtu(9).options(Family.BOND, long).options(Family.BOND, long), "IFLA_INFO_DATA", 1, Code.TOO_LONG),
+            (Request.bridge(3).options(P, long).options(P, long), "IFLA_PROTINFO", 0, Code.TOO_LONG),
+            # what is before a contradiction
+            (Request.delete(0).kind("vxlan").options(BOND), "ifi_index", 0, Code.NO_INDEX),
+            (Request.create("a b").kind("vxlan").options(BOND), "IFLA_IFNAME", 0, Code.BAD_NAME),
+            (change().kind("").options(BOND), "IFLA_INFO_KIND", 0, Code.BAD_NAME),
+            (change().options(Family.BOND, high).options(PORT).options(Family.VRF_PORT), *updelay),
+            # and after it
+            (change().options(Family.BOND, high).options(vlan), "IFLA_INFO_DATA", 0, Code.NO_SET),
+            (change().set("IFLA_LINKINFO", {}).kind("vxlan").options(BOND), "IFLA_LINKINFO", 1, Code.REPEATED),
+            (change().options(BOND).options(Family.INET6), "inet6", 0, Code.NO_SET),
+            (Request.bridge(3).options(BOND), "bond", 0, Code.NO_SET),
+            (Request.bridge(3).options(P).options(Family.BOND_PORT, {"IFLA_BOND_SLAVE_PRIO": 1}), "bond_port", 0, Code.NO_SET),
+        ]
+        for row in rows:
+            self.refused(*row)
+
+    def test_options_are_whole_lists(self):
+        with self.assertRaises(TypeError):
+            change().options(List.within(Family.BOND, "IFLA_BOND_AD_INFO", {"IFLA_BOND_AD_INFO_NUM_PORTS": 1}))
+        with self.assertRaises(TypeError):
+            change().options(BOND, {"IFLA_BOND_MIIMON": 2})
+
+    def test_options_are_those_that_were_passed(self):
+        bond = List(Family.BOND, {"IFLA_BOND_MIIMON": 1})
+        request = change().options(bond)
+        before = bytes(request)
+        bond["IFLA_BOND_MIIMON"] = 2
+        self.assertEqual(bytes(request), before)
 
 
 if __name__ == "__main__":

@@ -183,8 +183,13 @@ pub enum Code {
     NoIndex,
     /// Tells that Linux does not take the name or kind.
     BadName,
-    /// Tells that the request has no place for options of this attribute set.
+    /// Tells that a [`Request`](crate::Request) has no place for options of this attribute set, or not beside its kind or its
+    /// other options.
     NoSet,
+    /// Tells that a value has a wrong depth. The types of this crate exclude it.
+    BadDepth,
+    /// Tells that a request has a second `IFLA_LINKINFO`, `IFLA_AF_SPEC` or `IFLA_PROTINFO`. Linux takes one of each.
+    Repeated,
     /// Holds another error code of the C library: -3 if an allocation failed.
     Other(isize),
 }
@@ -202,6 +207,8 @@ impl From<isize> for Code {
             refusal::NO_INDEX => Code::NoIndex,
             refusal::BAD_NAME => Code::BadName,
             refusal::NO_SET => Code::NoSet,
+            refusal::BAD_DEPTH => Code::BadDepth,
+            refusal::REPEATED => Code::Repeated,
             other => Code::Other(other),
         }
     }
@@ -219,6 +226,8 @@ impl fmt::Display for Code {
             Code::NoIndex => refusal::NO_INDEX,
             Code::BadName => refusal::BAD_NAME,
             Code::NoSet => refusal::NO_SET,
+            Code::BadDepth => refusal::BAD_DEPTH,
+            Code::Repeated => refusal::REPEATED,
             Code::Other(code) => code,
         }))
     }

@@ -48,6 +48,8 @@ pub(crate) mod refusal {
     pub const NO_INDEX: isize = -12;
     pub const BAD_NAME: isize = -13;
     pub const NO_SET: isize = -14;
+    pub const BAD_DEPTH: isize = -15;
+    pub const REPEATED: isize = -16;
 }
 
 /// The types of elements that are all alike.
@@ -72,6 +74,8 @@ pub(crate) fn refusal_text(code: isize) -> &'static str {
         refusal::NO_INDEX => "the index of the link is 0 or negative",
         refusal::BAD_NAME => "Linux does not take the name or kind",
         refusal::NO_SET => "no attribute set reads the list of these values",
+        refusal::BAD_DEPTH => "the value has a wrong depth, or is not marked as one of the message",
+        refusal::REPEATED => "the message has a second list of this type",
         _ => "unknown error",
     }
 }

@@ -3,24 +3,29 @@
 use crate::error::{Code, WriteError};
 use crate::field::Field;
 use crate::kinds::{
-    form, refusal, Link, IFLA_ADDRESS, IFLA_AF_SPEC, IFLA_IFNAME, IFLA_INFO_DATA, IFLA_INFO_KIND, IFLA_INFO_SLAVE_DATA,
-    IFLA_INFO_SLAVE_KIND, IFLA_LINK, IFLA_LINKINFO, IFLA_MASTER, IFLA_MTU,
+    form, refusal, Link, LinkInfo, IFLA_ADDRESS, IFLA_AF_SPEC, IFLA_IFNAME, IFLA_INFO_DATA, IFLA_INFO_KIND,
+    IFLA_INFO_SLAVE_DATA, IFLA_INFO_SLAVE_KIND, IFLA_LINK, IFLA_LINKINFO, IFLA_MASTER, IFLA_MTU,
 };
 use crate::list::List;
 use crate::scope::{Key, Set};
 use crate::sys::{self, Raw, RawHead};
-use crate::types::{Mac, Text};
+use crate::types::{Held, Mac, Text};
 use crate::Family;
 
 /// The offset of a value after which the values of its list follow.
 const INLINE: u64 = u64::MAX;
+/// The field `inner` of a value that is an attribute of the message.
+const OF_MESSAGE: u16 = u16::MAX;
 const RTM_NEWLINK: u16 = 16;
 const RTM_DELLINK: u16 = 17;
 const RTM_GETLINK: u16 = 18;
 const RTM_SETLINK: u16 = 19;
+const RTM_NEWLINKPROP: u16 = 108;
+const RTM_DELLINKPROP: u16 = 109;
 const NLM_F_ACK: u16 = 4;
 const NLM_F_DUMP: u16 = 0x300;
 const NLM_F_CREATE_EXCL: u16 = 0x600;
+const NLM_F_APPEND: u16 = 0x800;
 const AF_BRIDGE: u8 = 7;
 const IFF_UP: u32 = 1;
 const IFLA_PROTINFO: u16 = 12;
@@ -50,12 +55,29 @@ pub struct Request {
     options: Vec<Options>,
 }
 
-/// A list of a set other than that of the message.
+/// A list of options.
 #[derive(Clone, Debug, PartialEq, Eq)]
 struct Options {
     family: Family,
     values: Vec<Raw>,
     bytes: Vec<u8>,
+}
+
+impl Options {
+    fn parts(&self) -> (&[Raw], &[u8]) {
+        (&self.values, &self.bytes)
+    }
+}
+
+/// What holds options.
+#[derive(Clone, Copy, PartialEq, Eq)]
+enum Holder {
+    /// The message itself.
+    Message,
+    /// An attribute of this type.
+    Attribute(u16),
+    /// An element of the IFLA_LINKINFO.
+    Info(Key<LinkInfo, Held>),
 }
 
 impl Request {
@@ -98,6 +120,26 @@ impl Request {
     /// Deletes VLANs of the bridge or bridge port with this index: RTM_DELLINK of AF_BRIDGE. The link stays.
     pub fn bridge_delete(index: u32) -> Request {
         Request::new(RTM_DELLINK, NLM_F_ACK, index).address_family(AF_BRIDGE)
+    }
+
+    /// Adds properties to the link with this index: RTM_NEWLINKPROP with NLM_F_CREATE, NLM_F_EXCL and NLM_F_APPEND. They are in
+    /// an `IFLA_PROP_LIST`.
+    ///
+    /// ```
+    /// use nlroute::*;
+    ///
+    /// let names = Nested::<PropList>::new().with(prop_list::IFLA_ALT_IFNAME, Text::from("uplink"));
+    /// let bytes = Request::property(3).with(IFLA_PROP_LIST, names).to_bytes()?; // 3 gets an alternative name
+    /// assert_eq!(bytes[32..], *b"\x10\0\x34\x80\x0b\0\x35\0uplink\0\0");
+    /// # Ok::<(), WriteError>(())
+    /// ```
+    pub fn property(index: u32) -> Request {
+        Request::new(RTM_NEWLINKPROP, NLM_F_ACK | NLM_F_CREATE_EXCL | NLM_F_APPEND, index)
+    }
+
+    /// Deletes properties of the link with this index: RTM_DELLINKPROP.
+    pub fn property_delete(index: u32) -> Request {
+        Request::new(RTM_DELLINKPROP, NLM_F_ACK, index)
     }
 
     /// Makes a request of this type (`nlmsg_type`) with these flags (`nlmsg_flags`), to which NLM_F_REQUEST is added, and
@@ -159,20 +201,39 @@ impl Request {
     }
 
     /// Appends an attribute of the message.
+    ///
+    /// A message has one `IFLA_LINKINFO`, one `IFLA_AF_SPEC` and one `IFLA_PROTINFO`: each is an attribute that is appended, or
+    /// made from options and kind. A second one is [`Code::Repeated`].
     pub fn with<T: Field>(mut self, key: Key<Link, T>, value: T) -> Request {
         self.attributes.push(key, value);
         self
     }
 
     /// Sets the kind of the device (IFLA_INFO_KIND), such as `dummy`. Options have a kind of their own: set it for another one
-    /// with the same options, such as `macvtap`, or `bridge_slave` for those of a port.
+    /// with the same options, such as `macvtap`, or `bridge_slave` for those of a port. Options of another set than that of the
+    /// kind are [`Code::NoSet`].
     pub fn kind(mut self, kind: &str) -> Request {
         self.kind = Some(kind.as_bytes().to_vec());
         self
     }
 
     /// Sets options: of a device, of a port or, for [`bridge`](Request::bridge), of AF_BRIDGE. The attribute set tells which.
-    /// An empty list of a device's options sets its kind only.
+    ///
+    /// Lists of the same set are joined, in order. Options of a device and options of a port are beside each other; those of
+    /// two devices' sets, or of two ports' sets, are [`Code::NoSet`]. So are they in AF_BRIDGE, where Linux ignores them. An
+    /// empty list of a device's options sets its kind only.
+    ///
+    /// ```
+    /// use nlroute::*;
+    ///
+    /// let request = Request::change(3)
+    ///     .options(&List::<Bond>::new().with(IFLA_BOND_MIIMON, 200))
+    ///     .options(&List::<BridgePort>::new().with(IFLA_BRPORT_COST, 44))
+    ///     .options(&List::<Bond>::new().with(IFLA_BOND_RESEND_IGMP, 2));
+    /// let bytes = request.to_bytes()?;
+    /// assert_eq!(bytes[44..64], [20, 0, 2, 0, 8, 0, 3, 0, 200, 0, 0, 0, 8, 0, 15, 0, 2, 0, 0, 0]); // IFLA_INFO_DATA
+    /// # Ok::<(), WriteError>(())
+    /// ```
     pub fn options<S: Set>(mut self, list: &List<'_, S>) -> Request {
         let (values, bytes) = list.parts();
         self.options.push(Options { family: list.family(), values: values.to_vec(), bytes: bytes.to_vec() });
@@ -183,8 +244,9 @@ impl Request {
     ///
     /// # Errors
     ///
-    /// Returns the first attribute or element that cannot be written, with its index in its list. Of an error in the header,
-    /// the name is that of the field, such as `ifi_index`.
+    /// Returns the first attribute or element that cannot be written, with its index: that of options in the list that was
+    /// passed, that of other attributes in the message. Of an error in the header, the name is that of the field, such as
+    /// `ifi_index`.
     ///
     /// ```
     /// use nlroute::*;
@@ -197,38 +259,83 @@ impl Request {
         let mut parts = Parts::default();
         parts.list(Family::Link, 0, self.attributes.parts());
         for options in &self.options {
-            self.put(options, &mut parts)?;
+            let holder = self.holder(options.family).ok_or_else(|| no_set(options.family))?;
+            match holder {
+                Holder::Message => parts.list(options.family, 0, options.parts()),
+                Holder::Attribute(kind) if !parts.holds(kind) && !options.values.is_empty() => {
+                    parts.held(Raw { kind, ..Raw::default() }, &self.held(holder));
+                }
+                Holder::Info(_) if !parts.holds(IFLA_LINKINFO.kind()) => self.put_info(&mut parts)?,
+                // They are empty, or joined with the first options of their list.
+                _ => {}
+            }
         }
-        if let (Some(kind), false) = (&self.kind, parts.has_kind) {
-            parts.info(IFLA_INFO_KIND.kind(), kind);
+        if self.kind.is_some() && !parts.holds(IFLA_LINKINFO.kind()) {
+            self.put_info(&mut parts)?;
         }
         sys::request(&self.head, &parts.values, &parts.bytes).map_err(|(at, code)| parts.error(at, code))
     }
 
-    /// Appends the list that holds options.
-    fn put(&self, options: &Options, parts: &mut Parts) -> Result<(), WriteError> {
-        let list = (&options.values[..], &options.bytes[..]);
+    /// Returns what holds the options of a set, or `None` if the request has no place for them.
+    fn holder(&self, family: Family) -> Option<Holder> {
         let is_bridge = self.head.address_family == AF_BRIDGE;
-        match options.family {
-            Family::Link => parts.list(Family::Link, 0, list),
-            Family::AfSpecBridge if is_bridge => parts.held(IFLA_AF_SPEC.kind(), options.family, list),
-            Family::AfSpec if !is_bridge => parts.held(IFLA_AF_SPEC.kind(), options.family, list),
-            Family::BridgePort if is_bridge => parts.held(IFLA_PROTINFO, options.family, list),
-            family if is_device(family) => {
-                let kind = self.kind.as_deref().unwrap_or_else(|| family.name().as_bytes());
-                parts.info(IFLA_INFO_KIND.kind(), kind);
-                parts.data(IFLA_INFO_DATA.kind(), family, list);
+        match family {
+            Family::Link => Some(Holder::Message),
+            Family::AfSpecBridge if is_bridge => Some(Holder::Attribute(IFLA_AF_SPEC.kind())),
+            Family::AfSpec if !is_bridge => Some(Holder::Attribute(IFLA_AF_SPEC.kind())),
+            Family::BridgePort if is_bridge => Some(Holder::Attribute(IFLA_PROTINFO)),
+            _ if is_bridge => None,
+            family if is_device(family) => Some(Holder::Info(IFLA_INFO_DATA)),
+            family => port_kind(family).map(|_| Holder::Info(IFLA_INFO_SLAVE_DATA)),
+        }
+    }
+
+    /// Returns the lists of options that are joined in a holder.
+    fn held(&self, holder: Holder) -> Vec<&Options> {
+        self.options.iter().filter(|options| self.holder(options.family) == Some(holder)).collect()
+    }
+
+    /// Appends the IFLA_LINKINFO: kind and data of the device, then those of the port.
+    fn put_info(&self, parts: &mut Parts) -> Result<(), WriteError> {
+        let data = self.held(Holder::Info(IFLA_INFO_DATA));
+        let port_data = self.held(Holder::Info(IFLA_INFO_SLAVE_DATA));
+        let own = self.kind.as_deref();
+        parts.push(Raw { kind: IFLA_LINKINFO.kind(), form: form::LIST, ..Raw::default() });
+        if let Some(kind) = own.or_else(|| data.first().map(|it| it.family.name().as_bytes())) {
+            parts.kind(IFLA_INFO_KIND, kind);
+            let reader = Family::from_info_kind(without_nul(kind));
+            // A kind that has no set may have options without values.
+            let of_none = data.first().filter(|_| are_empty(&data)).map(|it| it.family);
+            self.put_data(IFLA_INFO_DATA, reader.or(of_none), &data, parts)?;
+        }
+        if let Some(first) = port_data.first() {
+            let announced = own.and_then(announced_port_set);
+            // A kind that was set is enough if it announces the set, or if there are no data.
+            let is_enough = announced.is_some() || own.is_some() && are_empty(&port_data);
+            if let (false, Some(kind)) = (is_enough, port_kind(first.family)) {
+                parts.kind(IFLA_INFO_SLAVE_KIND, kind.as_bytes());
             }
-            family => {
-                let kind = port_kind(family).ok_or_else(|| no_set(family))?;
-                match &self.kind {
-                    Some(own) => parts.info(IFLA_INFO_KIND.kind(), own),
-                    None => parts.info(IFLA_INFO_SLAVE_KIND.kind(), kind.as_bytes()),
-                }
-                parts.data(IFLA_INFO_SLAVE_DATA.kind(), family, list);
-            }
+            self.put_data(IFLA_INFO_SLAVE_DATA, announced.or(Some(first.family)), &port_data, parts)?;
         }
         Ok(())
+    }
+
+    /// Appends an element of the IFLA_LINKINFO with the values of lists, which a set reads, if it is that of all of them.
+    fn put_data(
+        &self,
+        key: Key<LinkInfo, Held>,
+        reader: Option<Family>,
+        lists: &[&Options],
+        parts: &mut Parts,
+    ) -> Result<(), WriteError> {
+        if lists.iter().all(|options| Some(options.family) == reader) {
+            parts.held(element(key), lists);
+            return Ok(());
+        }
+        // A value before the lists may have an error.
+        sys::request(&self.head, &parts.values, &parts.bytes).map_err(|(at, code)| parts.error(at, code))?;
+        let index = parts.attributes.saturating_sub(1);
+        Err(WriteError { index, name: key.name().to_string(), code: Code::NoSet })
     }
 }
 
@@ -243,9 +350,39 @@ fn port_kind(family: Family) -> Option<&'static str> {
     Family::from_port_kind(kind.as_bytes()).filter(|of| *of == family).map(|_| kind)
 }
 
+/// Returns the set of the port data that an IFLA_INFO_KIND announces. With these two kinds, iproute2 sends no
+/// IFLA_INFO_SLAVE_KIND.
+fn announced_port_set(kind: &[u8]) -> Option<Family> {
+    match without_nul(kind) {
+        b"bond_slave" => Some(Family::BondPort),
+        b"bridge_slave" => Some(Family::BridgePort),
+        _ => None,
+    }
+}
+
+/// Returns whether lists have no values.
+fn are_empty(lists: &[&Options]) -> bool {
+    lists.iter().all(|options| options.values.is_empty())
+}
+
+/// Returns a kind without the NUL at its end, if it has one.
+fn without_nul(kind: &[u8]) -> &[u8] {
+    kind.strip_suffix(&[0]).unwrap_or(kind)
+}
+
+/// Returns an element of the IFLA_LINKINFO.
+fn element<T>(key: Key<LinkInfo, T>) -> Raw {
+    Raw { kind: IFLA_LINKINFO.kind(), inner: key.kind(), depth: 1, ..Raw::default() }
+}
+
 /// Returns the error for options that the request has no place for.
 fn no_set(family: Family) -> WriteError {
     WriteError { index: 0, name: family.name().to_string(), code: Code::NoSet }
+}
+
+/// Returns a value as it is in a request: an attribute of the message has a mark.
+fn placed(raw: Raw) -> Raw {
+    Raw { inner: if raw.depth == 0 { OF_MESSAGE } else { raw.inner }, ..raw }
 }
 
 /// The values of a request, and what each is, for errors.
@@ -256,7 +393,8 @@ struct Parts {
     /// Of each value the set, the depth of its list, and its index in it.
     owners: Vec<(Family, u8, usize)>,
     attributes: usize,
-    has_kind: bool,
+    /// The types of the attributes of the message that hold options.
+    holders: Vec<u16>,
 }
 
 impl Parts {
@@ -267,7 +405,7 @@ impl Parts {
         let mut index = if depth == 0 { self.attributes } else { 0 };
         for raw in values {
             index += usize::from(raw.depth == 0);
-            self.values.push(Raw { depth: raw.depth + depth, offset: raw.offset + start, ..*raw });
+            self.values.push(placed(Raw { depth: raw.depth + depth, offset: raw.offset + start, ..*raw }));
             self.owners.push((family, depth, index.saturating_sub(1)));
         }
         if depth == 0 {
@@ -277,36 +415,32 @@ impl Parts {
 
     /// Appends a value of the message.
     fn push(&mut self, raw: Raw) {
-        self.attributes += usize::from(raw.depth == 0);
-        self.values.push(raw);
+        if raw.depth == 0 {
+            self.attributes += 1;
+            self.holders.push(raw.kind);
+        }
+        self.values.push(placed(raw));
         self.owners.push((Family::Link, 0, self.attributes.saturating_sub(1)));
     }
 
-    /// Appends an attribute with a list of another set.
-    fn held(&mut self, kind: u16, family: Family, list: (&[Raw], &[u8])) {
-        if !list.0.is_empty() {
-            self.push(Raw { kind, form: form::HELD, offset: INLINE, ..Raw::default() });
-            self.list(family, 1, list);
+    /// Returns whether an attribute of the message of this type holds options.
+    fn holds(&self, kind: u16) -> bool {
+        self.holders.contains(&kind)
+    }
+
+    /// Appends an attribute or element with the values of lists, if there are any.
+    fn held(&mut self, raw: Raw, lists: &[&Options]) {
+        if !are_empty(lists) {
+            self.push(Raw { form: form::HELD, offset: INLINE, ..raw });
+            lists.iter().for_each(|options| self.list(options.family, raw.depth + 1, options.parts()));
         }
     }
 
-    /// Appends an IFLA_LINKINFO with a kind.
-    fn info(&mut self, inner: u16, kind: &[u8]) {
+    /// Appends a kind to the IFLA_LINKINFO.
+    fn kind(&mut self, key: Key<LinkInfo, Text>, kind: &[u8]) {
         let (offset, length) = (self.bytes.len() as u64, u32::try_from(kind.len()).unwrap_or(u32::MAX));
         self.bytes.extend_from_slice(kind);
-        self.has_kind = true;
-        self.push(Raw { kind: IFLA_LINKINFO.kind(), form: form::LIST, ..Raw::default() });
-        let element = Raw { kind: IFLA_LINKINFO.kind(), inner, depth: 1, ..Raw::default() };
-        self.push(Raw { form: form::TEXT, offset, length, ..element });
-    }
-
-    /// Appends the data beside a kind.
-    fn data(&mut self, inner: u16, family: Family, list: (&[Raw], &[u8])) {
-        if !list.0.is_empty() {
-            let element = Raw { kind: IFLA_LINKINFO.kind(), inner, depth: 1, ..Raw::default() };
-            self.push(Raw { form: form::HELD, offset: INLINE, ..element });
-            self.list(family, 2, list);
-        }
+        self.push(Raw { form: form::TEXT, offset, length, ..element(key) });
     }
 
     /// Returns the error of the value at this index or, if there is none, of the header.
@@ -320,7 +454,12 @@ impl Parts {
         let (index, name) = match (self.owners.get(at), self.values.get(at)) {
             (Some(&(family, depth, index)), Some(raw)) => {
                 let own = Raw { depth: raw.depth - depth, ..*raw };
-                (index, sys::kind_name(family as u32, &own).to_string())
+                let name = match own {
+                    // The library has no name for it.
+                    Raw { kind: IFLA_PROTINFO, form: form::HELD, depth: 0, .. } => "IFLA_PROTINFO".to_string(),
+                    _ => sys::kind_name(family as u32, &own).to_string(),
+                };
+                (index, name)
             }
             _ => (0, code_name.to_string()),
         };

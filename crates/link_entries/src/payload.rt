@@ -47,7 +47,7 @@ pub fn put_payload(
 
 /// Checks whether an entry has the form of its attribute type.
 #[inline(always)]
-fn has_form(fields: Fields, entry: &Entry) -> bool
+pub fn has_form(fields: Fields, entry: &Entry) -> bool
     ensures { result ≡ has_form fields entry.now }
 {
     match fields {
@@ -382,7 +382,7 @@ fn put_bridge_id(entry: &Entry, room: &mut [u8]) -> Result<usize, Misfit>
 
 /// Checks whether an entry refers to `size` bytes, if it is given.
 #[inline]
-fn has_size(size: Option<usize>, entry: &Entry) -> bool
+pub fn has_size(size: Option<usize>, entry: &Entry) -> bool
     ensures { result ≡ has_size size entry.now }
 {
     match size {

@@ -1,25 +1,27 @@
 -- The attributes that values spell.
-use Rattle.std.proofs.Common.{◌≡◌, ℕ, ◌+◌, ◌<◌, ◌≤◌, ◌%◌, ◌==◌, Bool, true, false, cond, List, [], ◌∷◌, ◌++◌, length, Option, Some, None, Ok, Err, refl, sym, ap, subst, arith}
+use Rattle.std.proofs.Common.{◌≡◌, ℕ, ◌+◌, ◌<◌, ◌≤◌, ◌%◌, ◌==◌, Bool, true, false, cond, List, [], ◌∷◌, ◌++◌, length, take, Option, Some, None, Ok, Err, refl, sym, ap, subst, ◌∙◌, arith}
 use Rattle.std.specs.Prelude.{nat_lt, nat_le}
-use Rattle.std.proofs.lemmas.Bool.{leb-true}
+use Rattle.std.proofs.lemmas.Bool.{leb-true, eqb-true}
 use Rattle.std.proofs.lemmas.List.{length-replicate}
+use Rattle.std.proofs.Math.Seq.{take-length}
 use Rattle.link_base.specs.Frame.{IsComplete, frame_bytes, gap, max_payload}
 use Rattle.link_base.specs.Wire.{whole}
 use Rattle.link_base.proofs.Readings.{AreFrames-cons}
 use Rattle.link_entries.specs.declared.entry.Entry.{Entry}
 use Rattle.link_entries.specs.declared.fields.Fields.{Fields}
-use Rattle.link_entries.specs.declared.misfit.Misfit.TheVariants.{TooLong, BadElement}
+use Rattle.link_entries.specs.declared.misfit.Misfit.TheVariants.{TooLong, BadDepth, Repeated}
 use Rattle.link_entries.specs.Payload.{field_of}
+use Rattle.link_entries.proofs.WrittenLists.{if_held}
 use Rattle.netlink_packet_route.specs.declared.family.Family.TheVariants.{Link}
 use Rattle.link_requests.specs.declared.head.Head.{Head}
 use Rattle.link_requests.specs.declared.level.Scope.{Scope}
 use Rattle.link_requests.specs.declared.level.Scope.TheVariants.{Attributes, Elements, Numbers}
-use Rattle.link_requests.specs.declared.misfit.ValueMisfit.TheVariants as misfits
 use Rattle.link_requests.specs.Opening.{Kinds, no_kinds}
-use Rattle.link_requests.specs.Spelling.{Spelling, before, fitted}
-use Rattle.link_requests.specs.Value.{is_protinfo, row_for, type_for, begins_at, payload_with, value_with, value_by, value_of}
+use Rattle.link_entries.specs.Spelled.{Spelling, before, fitted}
+use Rattle.link_requests.specs.Value.{is_protinfo, is_placed, row_for, type_for, begins_at, payload_with, value_with, value_by, value_of}
 use Rattle.link_requests.specs.Values.{values_of, inner_of}
-use Rattle.link_requests.specs.Request.{attributes_of}
+use Rattle.link_requests.specs.Request.{up_to, attributes_of}
+use Rattle.link_requests.specs.Lists.{unrepeated}
 use Rattle.link_requests.specs.Law.{Attribute, attribute_by, attributes_in, Consists, has_attributes}
 
 -- ---- spellings
@@ -29,7 +31,7 @@ before_ok (Ok a) (Ok b) s e = (a, b, refl, refl, cc)
 before_ok (Ok a) (Err x) s e = absurd cc
 before_ok (Err x) others s e = absurd cc
 
-fitted_by : (f : ℕ) (p s : List ℕ) (b : Bool) → nat_le (length p) max_payload ≡ b → cond {A = Spelling} b (Ok (frame_bytes (whole f p))) (Err (0, misfits.Entry TooLong)) ≡ Ok s → (length p ≤ max_payload) × (s ≡ frame_bytes (whole f p))
+fitted_by : (f : ℕ) (p s : List ℕ) (b : Bool) → nat_le (length p) max_payload ≡ b → cond {A = Spelling} b (Ok (frame_bytes (whole f p))) (Err (0, TooLong)) ≡ Ok s → (length p ≤ max_payload) × (s ≡ frame_bytes (whole f p))
 fitted_by f p s true short e = (leb-true (length p) max_payload short, cc)
 fitted_by f p s false long e = absurd cc
 
@@ -72,7 +74,8 @@ module _ (octets : List ℕ) (scope : Scope) (depth : ℕ) (x : Kinds) (attribut
 
     one_value : (own : Option Fields) (a : List ℕ) → value_by own octets scope depth x i e es (inner_of octets depth x es) ≡ Ok a → Consists (a ++ b) (attribute_by own octets scope depth x i e es ++ others)
     one_value None a is = absurd cc
-    one_value (Some own) a is = with_scope scope attributes own a is
+    one_value (Some own) a is =
+        with_scope scope attributes own a (if_held (is_placed scope own e) (0, BadDepth) (value_with octets scope depth x i own e es (inner_of octets depth x es)) a is).1
 
     -- a value of the list, or a deeper one
     one_step : (flat : Bool) (a : List ℕ) → cond flat (value_of octets scope depth x i e es (inner_of octets depth x es)) (Ok []) ≡ Ok a
@@ -95,12 +98,31 @@ module _ (octets : List ℕ) (scope : Scope) (depth : ℕ) (x : Kinds) (attribut
 
 -- ---- a message
 
-pub message_consists : (head : Head) (octets s : List ℕ) (es : List Entry) → attributes_of head octets es ≡ Ok s → Consists s (attributes_in octets (Attributes Link) 0 (no_kinds head.address_family) 0 es)
-message_consists head octets s es h = by (begins_at 0 es) h
+-- no list is repeated
+up_to_ok : (n m : ℕ) (t : Spelling) (s : List ℕ) → up_to n m t ≡ Ok s → (n ≡ m) × (t ≡ Ok s)
+up_to_ok n m (Ok u) s h = let right = if_held (n == m) (n, Repeated) (Ok u) s h in (eqb-true n m right.0, right.1)
+up_to_ok n m (Err e) s h = absurd cc
+
+-- what all values spell
+pub attributes_ok : (head : Head) (octets s : List ℕ) (es : List Entry) → attributes_of head octets es ≡ Ok s
+    → (unrepeated [] es ≡ length es) × (values_of octets (Attributes Link) 0 (no_kinds head.address_family) 0 es ≡ Ok s)
+attributes_ok head octets s es h = by (begins_at 0 es) h
   where
-    by : (b : Bool) → cond {A = Spelling} b (values_of octets (Attributes Link) 0 (no_kinds head.address_family) 0 es) (Err (0, misfits.Entry BadElement)) ≡ Ok s → Consists s (attributes_in octets (Attributes Link) 0 (no_kinds head.address_family) 0 es)
-    by true is = list_consists octets (Attributes Link) 0 (no_kinds head.address_family) refl 0 es s is
+    spelled : List Entry → Spelling
+    spelled these = values_of octets (Attributes Link) 0 (no_kinds head.address_family) 0 these
+
+    n : ℕ
+    n = unrepeated [] es
+
+    by : (b : Bool) → cond {A = Spelling} b (up_to n (length es) (spelled (take n es))) (Err (0, BadDepth)) ≡ Ok s → (n ≡ length es) × (spelled es ≡ Ok s)
+    by true is =
+        let (all, same) = up_to_ok n (length es) (spelled (take n es)) s is in
+        let whole : take n es ≡ es = ap (λ m. take m es) all ∙ take-length es in
+        (all, sym (ap spelled whole) ∙ same)
     by false is = absurd cc
+
+pub message_consists : (head : Head) (octets s : List ℕ) (es : List Entry) → attributes_of head octets es ≡ Ok s → Consists s (attributes_in octets (Attributes Link) 0 (no_kinds head.address_family) 0 es)
+message_consists head octets s es h = list_consists octets (Attributes Link) 0 (no_kinds head.address_family) refl 0 es s (attributes_ok head octets s es h).1
 
 pub list_found : (octets s : List ℕ) (scope : Scope) (depth i : ℕ) (x : Kinds) (es : List Entry) → has_attributes scope ≡ true → values_of octets scope depth x i es ≡ Ok s → Consists s (attributes_in octets scope depth x i es)
 list_found octets s scope depth i x es h is = list_consists octets scope depth x h i es s is

@@ -7,15 +7,13 @@ use Rattle.link_entries.specs.declared.entry.Entry.{Entry}
 use Rattle.link_entries.specs.declared.fields.Fields.{Fields}
 use Rattle.link_entries.specs.declared.fields.Fields.TheVariants as fields
 use Rattle.link_entries.specs.declared.misfit.Misfit.{Misfit}
-use Rattle.link_entries.specs.declared.misfit.Misfit.TheVariants.{BadForm, BadElement}
+use Rattle.link_entries.specs.declared.misfit.Misfit.TheVariants.{BadForm, BadDepth}
 use Rattle.link_entries.specs.Forms.{form_held}
 use Rattle.link_entries.proofs.WrittenLists.{if_held, no_bytes}
 use Rattle.link_requests.specs.declared.level.Scope.{Scope}
 use Rattle.link_requests.specs.declared.level.Scope.TheVariants.{Attributes}
-use Rattle.link_requests.specs.declared.misfit.ValueMisfit.{ValueMisfit}
-use Rattle.link_requests.specs.declared.misfit.ValueMisfit.TheVariants as misfits
 use Rattle.link_requests.specs.Opening.{Kinds}
-use Rattle.link_requests.specs.Spelling.{Spelling, alone, before, fitted, of_entry}
+use Rattle.link_entries.specs.Spelled.{Spelling, alone, before, fitted}
 use Rattle.link_requests.specs.Value.{inline, type_for, set_for, is_held, kind_for, allowed, value_bytes, announced, held_payload, bytes_payload, value_payload, is_above, scope_below, below_of, attribute_with}
 
 -- ---- the set that reads a list in a value matters only if the value is a list of another set
@@ -38,10 +36,10 @@ module _ (scope : Scope) (r s : Option Family) (e : Entry) where
       by_scope sc = refl
 
   payload_same : (own : Fields) (follow : Bool) (octets : List ℕ) → (is_held own ≡ true → r ≡ s) → value_payload scope r own follow e octets ≡ value_payload scope s own follow e octets
-  payload_same (fields.Passed form None) follow octets same = ap (λ p. cond (e.form == form) p (Err (misfits.Entry BadForm))) (by (form == form_held) same)
+  payload_same (fields.Passed form None) follow octets same = ap (λ p. cond (e.form == form) p (Err BadForm)) (by (form == form_held) same)
     where
-      plain : Result (List ℕ) ValueMisfit
-      plain = allowed scope (kind_for scope e) (value_bytes e octets)
+      plain : Result (List ℕ) Misfit
+      plain = allowed scope (kind_for scope e) (value_bytes None e octets)
 
       by : (b : Bool) → (b ≡ true → r ≡ s) → cond b (held_payload r follow e octets) plain ≡ cond b (held_payload s follow e octets) plain
       by true h = ap (λ t. held_payload t follow e octets) (h refl)
@@ -62,10 +60,6 @@ module _ (octets : List ℕ) (scope : Scope) (depth : ℕ) (x : Kinds) (i : ℕ)
 
 -- ---- values follow
 
-pub entry_ok : (r : Result (List ℕ) Misfit) (p : List ℕ) → of_entry r ≡ Ok p → r ≡ Ok p
-entry_ok (Ok q) p h = cc
-entry_ok (Err m) p h = absurd cc
-
 nothing_announced : (reader : Option Family) (p : List ℕ) → announced reader ≡ Ok p → p ≡ []
 nothing_announced None p h = absurd cc
 nothing_announced (Some set) p h = cc
@@ -75,16 +69,16 @@ module _ (scope : Scope) (reader : Option Family) (e : Entry) (octets p : List �
   nothing_plain : (form : ℕ) → bytes_payload scope form reader true e octets ≡ Ok p → (p ≡ []) ⊎ (scope_below scope reader (fields.Passed form None) e ≡ None)
   nothing_plain form h = elim (cases_Bool (form == form_held)) [
     | inl held ↦
-        let right = if_held (e.form == form) (misfits.Entry BadForm) (cond (form == form_held) (held_payload reader true e octets) (allowed scope (kind_for scope e) (value_bytes e octets))) p h in
-        let is : held_payload reader true e octets ≡ Ok p = sym (ap (λ b. cond b (held_payload reader true e octets) (allowed scope (kind_for scope e) (value_bytes e octets))) held) ∙ right.1 in
-        inl (nothing_announced reader p (if_held (e.offset == inline) (misfits.Entry BadElement) (announced reader) p is).1)
+        let right = if_held (e.form == form) BadForm (cond (form == form_held) (held_payload reader true e octets) (allowed scope (kind_for scope e) (value_bytes None e octets))) p h in
+        let is : held_payload reader true e octets ≡ Ok p = sym (ap (λ b. cond b (held_payload reader true e octets) (allowed scope (kind_for scope e) (value_bytes None e octets))) held) ∙ right.1 in
+        inl (nothing_announced reader p (if_held (e.offset == inline) BadDepth (announced reader) p is).1)
     | inr other ↦ inr (scope_passed scope reader form e ∙ ap (λ b. cond b (option_map Attributes reader) None) other)
   ]
 
   pub nothing_own : (own : Fields) → value_payload scope reader own true e octets ≡ Ok p → (p ≡ []) ⊎ (scope_below scope reader own e ≡ None)
-  nothing_own (fields.Numbers a) h = inl (no_bytes (fields.Numbers a) (record e { kind = kind_for scope e }) octets p refl (entry_ok _ p h))
-  nothing_own (fields.Addresses size) h = inl (no_bytes (fields.Addresses size) (record e { kind = kind_for scope e }) octets p refl (entry_ok _ p h))
-  nothing_own (fields.List flag) h = inl (no_bytes (fields.List flag) (record e { kind = kind_for scope e }) octets p refl (entry_ok _ p h))
+  nothing_own (fields.Numbers a) h = inl (no_bytes (fields.Numbers a) (record e { kind = kind_for scope e }) octets p refl h)
+  nothing_own (fields.Addresses size) h = inl (no_bytes (fields.Addresses size) (record e { kind = kind_for scope e }) octets p refl h)
+  nothing_own (fields.List flag) h = inl (no_bytes (fields.List flag) (record e { kind = kind_for scope e }) octets p refl h)
   nothing_own (fields.Passed form None) h = nothing_plain form h
   nothing_own own h = by_scope scope
     where

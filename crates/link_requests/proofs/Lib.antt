@@ -1,6 +1,5 @@
 pub mod Readers
 pub mod Rows
-pub mod Spellings
 pub mod StoredValues
 pub mod Following
 pub mod Steps
@@ -10,3 +9,4 @@ pub mod Packets
 pub mod Messages
 pub mod Attributes
 pub mod Plain
+pub mod Marks

@@ -16,32 +16,27 @@ use Rattle.link_entries.specs.declared.entry.Entry.{Entry}
 use Rattle.link_entries.specs.declared.fields.Fields.{Fields}
 use Rattle.link_entries.specs.declared.fields.Fields.TheVariants as fields
 use Rattle.link_entries.specs.declared.misfit.Misfit.{Misfit}
-use Rattle.link_entries.specs.declared.misfit.Misfit.TheVariants.{TooLong, BadForm, BadElement, BadOctets}
+use Rattle.link_entries.specs.declared.misfit.Misfit.TheVariants.{TooLong, BadForm, BadElement, BadOctets, BadDepth, BadName}
 use Rattle.link_entries.specs.Fields.{array_number, ip_address, fields_at}
 use Rattle.link_entries.specs.Forms.{form_held}
-use Rattle.link_entries.specs.Payload.{only_if, passed, payload_of, field_of}
+use Rattle.link_entries.specs.Payload.{has_form, only_if, has_size, passed, payload_of, field_of}
 use Rattle.link_entries.specs.Spelled as spelled
 use Rattle.link_entries.proofs.Spellings.{frame_low}
-use Rattle.link_entries.proofs.WrittenLists.{if_held}
+use Rattle.link_entries.proofs.WrittenLists.{if_held, alone_ok}
 use Rattle.link_requests.specs.declared.level.Scope.{Scope}
 use Rattle.link_requests.specs.declared.level.Scope.TheVariants.{Attributes, Elements, Numbers, Addresses}
-use Rattle.link_requests.specs.declared.misfit.ValueMisfit.{ValueMisfit}
-use Rattle.link_requests.specs.declared.misfit.ValueMisfit.TheVariants as misfits
 use Rattle.link_requests.specs.Opening.{Kinds}
-use Rattle.link_requests.specs.Spelling.{Spelling, alone, before, of_entry}
-use Rattle.link_requests.specs.Value.{inline, is_protinfo, type_for, set_for, kind_for, is_allowed, allowed, value_bytes, announced, held_payload, bytes_payload, value_payload, is_above, begins_at, scope_below, inside_of, below_of, payload_with, attribute_with, value_by, value_of}
+use Rattle.link_entries.specs.Spelled.{Spelling, alone, before}
+use Rattle.link_requests.specs.Value.{inline, is_protinfo, is_placed, type_for, set_for, kind_for, is_allowed, allowed, value_bytes, announced, held_payload, bytes_payload, value_payload, is_above, begins_at, scope_below, inside_of, below_of, payload_with, attribute_with, value_by, value_of}
 use Rattle.link_requests.specs.Values.{kinds_in, values_of, inner_of}
 use Rattle.link_requests.specs.Law.{lowered, list_at, IsPlain}
 use Rattle.link_requests.proofs.Attributes.{before_ok, fitted_ok}
-use Rattle.link_requests.proofs.Following.{entry_ok, scope_passed}
+use Rattle.link_requests.proofs.Following.{scope_passed}
 
 -- ---- results
 
-abbrev payload_told : List ℕ → Result (List ℕ) ValueMisfit
+abbrev payload_told : List ℕ → Result (List ℕ) Misfit
 payload_told q = Ok q
-
-abbrev entry_told : List ℕ → Result (List ℕ) Misfit
-entry_told q = Ok q
 
 abbrev spelling_told : List ℕ → Spelling
 spelling_told t = Ok t
@@ -54,34 +49,32 @@ payload_same p q e = cc
 
 -- ---- payloads
 
-alone_ok : (r : Result (List ℕ) ValueMisfit) (q : List ℕ) → alone r ≡ Ok q → r ≡ Ok q
-alone_ok (Ok p) q h = cc
-alone_ok (Err m) q h = absurd cc
-
 allowed_ok : (scope : Scope) (k : ℕ) (r : Result (List ℕ) Misfit) (q : List ℕ) → allowed scope k r ≡ Ok q → r ≡ Ok q
-allowed_ok scope k (Ok p) q h = ap Ok (payload_same p q (if_held (is_allowed scope k p) misfits.BadName (Ok p) q h).1)
+allowed_ok scope k (Ok p) q h = ap Ok (payload_same p q (if_held (is_allowed scope k p) BadName (Ok p) q h).1)
 allowed_ok scope k (Err m) q h = absurd cc
 
 module _ (scope : Scope) (reader : Option Family) (follow : Bool) (e : Entry) (octets q : List ℕ) (lent : (e.offset == inline) ≡ false) where
   passed_ok : (form : ℕ) → bytes_payload scope form reader follow e octets ≡ Ok q → (e.form == form ≡ true) × (passed None e octets ≡ Ok q)
   passed_ok form h =
-      let right = if_held (e.form == form) (misfits.Entry BadForm) (cond (form == form_held) (held_payload reader follow e octets) (allowed scope (kind_for scope e) (value_bytes e octets))) q h in
+      let right = if_held (e.form == form) BadForm (cond (form == form_held) (held_payload reader follow e octets) (allowed scope (kind_for scope e) (value_bytes None e octets))) q h in
       (right.0, by (form == form_held) right.1)
     where
-      of_held : (f : Bool) → cond f (Err (misfits.Entry BadElement)) (of_entry (passed None e octets)) ≡ Ok q → passed None e octets ≡ Ok q
+      of_held : (f : Bool) → cond f (Err BadDepth) (passed None e octets) ≡ Ok q → passed None e octets ≡ Ok q
       of_held true is = absurd cc
-      of_held false is = entry_ok (passed None e octets) q is
+      of_held false is = is
 
-      by : (held : Bool) → cond held (held_payload reader follow e octets) (allowed scope (kind_for scope e) (value_bytes e octets)) ≡ Ok q → passed None e octets ≡ Ok q
-      by true is = of_held follow (sym (ap (λ b. cond b (cond follow (announced reader) (Err (misfits.Entry BadElement))) (cond follow (Err (misfits.Entry BadElement)) (of_entry (passed None e octets)))) lent) ∙ is)
-      by false is = sym (ap (λ b. cond b (only_if (nat_le e.length 16) BadOctets (take e.length e.octets)) (passed None e octets)) lent) ∙ allowed_ok scope (kind_for scope e) (value_bytes e octets) q is
+      by : (held : Bool) → cond held (held_payload reader follow e octets) (allowed scope (kind_for scope e) (value_bytes None e octets)) ≡ Ok q → passed None e octets ≡ Ok q
+      by true is = of_held follow (sym (ap (λ b. cond b (cond follow (announced reader) (Err BadDepth)) (cond follow (Err BadDepth) (passed None e octets))) lent) ∙ is)
+      by false is = sym (ap (λ b. cond b (only_if (nat_le e.length 16) BadOctets (take e.length e.octets)) (passed None e octets)) lent) ∙ allowed_ok scope (kind_for scope e) (value_bytes None e octets) q is
 
   -- the payload of an entry
   pub payload_ok : (own : Fields) → value_payload scope reader own follow e octets ≡ Ok q → payload_of own (record e { kind = kind_for scope e }) octets ≡ Ok q
   payload_ok (fields.Passed form None) h =
       let is = passed_ok form h in
       ap (λ b. cond (b || ((e.form == 0) && true)) (passed None e octets) (Err BadForm)) is.0 ∙ is.1
-  payload_ok own h = entry_ok (payload_of own (record e { kind = kind_for scope e }) octets) q h
+  payload_ok (fields.Passed form (Some n)) h =
+      sym (ap (λ b. cond (has_form (fields.Passed form (Some n)) e) (cond b (only_if (has_size (Some n) e && nat_le e.length 16) BadOctets (take e.length e.octets)) (passed (Some n) e octets)) (Err BadForm)) lent) ∙ h
+  payload_ok own h = h
 
 payload_depth : (own : Fields) (e : Entry) (d : ℕ) (octets : List ℕ) → payload_of own (record e { depth = d }) octets ≡ payload_of own e octets
 payload_depth (fields.Passed form None) e d octets = refl
@@ -100,7 +93,7 @@ sub_none scope reader form e other = scope_passed scope reader form e ∙ ap (λ
 
 held_alone : (reader : Option Family) (follow : Bool) (e : Entry) (octets q : List ℕ) → (e.offset == inline) ≡ false → held_payload reader follow e octets ≡ Ok q → follow ≡ false
 held_alone reader true e octets q lent h =
-    let bad : Err (misfits.Entry BadElement) ≡ payload_told q = sym (ap (λ b. cond b (announced reader) (Err (misfits.Entry BadElement))) lent) ∙ h in absurd cc
+    let bad : Err BadDepth ≡ payload_told q = sym (ap (λ b. cond b (announced reader) (Err BadDepth)) lent) ∙ h in absurd cc
 held_alone reader false e octets q lent h = refl
 
 -- values follow only a list
@@ -108,14 +101,14 @@ module _ (scope : Scope) (reader : Option Family) (follow : Bool) (e : Entry) (o
   plain_alone : (form : ℕ) → value_payload scope reader (fields.Passed form None) follow e octets ≡ Ok q → (follow ≡ false) ⊎ (scope_below scope reader (fields.Passed form None) e ≡ None)
   plain_alone form h = elim (cases_Bool (form == form_held)) [
     | inl held ↦
-        let right = if_held (e.form == form) (misfits.Entry BadForm) (cond (form == form_held) (held_payload reader follow e octets) (allowed scope (kind_for scope e) (value_bytes e octets))) q h in
-        inl (held_alone reader follow e octets q lent (sym (ap (λ b. cond b (held_payload reader follow e octets) (allowed scope (kind_for scope e) (value_bytes e octets))) held) ∙ right.1))
+        let right = if_held (e.form == form) BadForm (cond (form == form_held) (held_payload reader follow e octets) (allowed scope (kind_for scope e) (value_bytes None e octets))) q h in
+        inl (held_alone reader follow e octets q lent (sym (ap (λ b. cond b (held_payload reader follow e octets) (allowed scope (kind_for scope e) (value_bytes None e octets))) held) ∙ right.1))
     | inr other ↦ inr (sub_none scope reader form e other)
   ]
 
 follow_none : (depth : ℕ) (sub : Option Scope) (inner : Scope → Spelling) (es : List Entry) (follow : Bool) (t : List ℕ) → (follow ≡ false) ⊎ (sub ≡ None) → cond follow (inside_of (depth + 1) sub inner es) (Ok []) ≡ Ok t → (follow ≡ false) × (t ≡ [])
 follow_none depth sub inner es true t (inl bad) h = absurd cc
-follow_none depth sub inner es true t (inr none) h = let bad : Err (0, misfits.Entry BadElement) ≡ spelling_told t = sym (ap (λ s. inside_of (depth + 1) s inner es) none) ∙ h in absurd cc
+follow_none depth sub inner es true t (inr none) h = let bad : Err (0, BadDepth) ≡ spelling_told t = sym (ap (λ s. inside_of (depth + 1) s inner es) none) ∙ h in absurd cc
 follow_none depth sub inner es false t either h = (refl, let same : spelling_told [] ≡ spelling_told t = h in sym (told_same [] t same))
 
 -- ---- one element
@@ -189,7 +182,7 @@ module _ (octets : List ℕ) (set : Family) (k depth : ℕ) (x : Kinds) (i : ℕ
       bytes I32 = refl
       bytes n = refl
 
-      ended : (follow : Bool) (t : List ℕ) → cond follow (Err (0, misfits.Entry BadElement)) (Ok []) ≡ spelling_told t → (follow ≡ false) × (t ≡ [])
+      ended : (follow : Bool) (t : List ℕ) → cond follow (Err (0, BadDepth)) (Ok []) ≡ spelling_told t → (follow ≡ false) × (t ≡ [])
       ended true t is = absurd cc
       ended false t is = (refl, sym (told_same [] t is))
 
@@ -197,9 +190,9 @@ module _ (octets : List ℕ) (set : Family) (k depth : ℕ) (x : Kinds) (i : ℕ
           → (is_above (depth + 1) es ≡ false) × (spelled.element_of (elements_at (table_of set) k) (fields.Numbers n) k i below octets ≡ Ok a)
       by false same is = absurd cc
       by true same is =
-          let (q, t, mine, others, join) = before_ok (alone (of_entry (payload_of (array_number n) e []))) (cond (is_above (depth + 1) es) (Err (0, misfits.Entry BadElement)) (Ok [])) a is in
+          let (q, t, mine, others, join) = before_ok (alone (payload_of (array_number n) e [])) (cond (is_above (depth + 1) es) (Err (0, BadDepth)) (Ok [])) a is in
           let (none, empty) = ended (is_above (depth + 1) es) t others in
-          let value = entry_ok (payload_of (array_number n) e []) q (alone_ok (of_entry (payload_of (array_number n) e [])) q mine) in
+          let value = alone_ok (payload_of (array_number n) e []) q mine in
           let same_bytes : a ≡ q = join ∙ ap (λ u. q ++ u) empty ∙ append-nil q in
           (none, right_place deep same (fields.Numbers n) ∙ bytes n ∙ value ∙ ap Ok (sym same_bytes))
 
@@ -274,12 +267,12 @@ module _ (octets : List ℕ) (set : Family) (depth : ℕ) (x : Kinds) (e : Entry
       let (begins, is) = begins_or (begins_at (depth + 1) es) refl h in
       elements_same octets set e.kind depth y x.address_family sub list (one y) 0 es t (near_of (depth + 1) es begins) plain is
     where
-      begins_or : (b : Bool) → begins_at (depth + 1) es ≡ b → cond b (inner sub) (Err (0, misfits.Entry BadElement)) ≡ Ok t → (begins_at (depth + 1) es ≡ true) × (inner sub ≡ Ok t)
+      begins_or : (b : Bool) → begins_at (depth + 1) es ≡ b → cond b (inner sub) (Err (0, BadDepth)) ≡ Ok t → (begins_at (depth + 1) es ≡ true) × (inner sub ≡ Ok t)
       begins_or true begins is = (begins, is)
       begins_or false begins is = absurd cc
 
   nowhere : (list : Fields) (sub : Option Scope) (t : List ℕ) → sub ≡ None → inside_of (depth + 1) sub inner es ≡ Ok t → spelled.elements_of (elements_at attributes e.kind) list e.kind octets 0 (list_at depth es) ≡ Ok t
-  nowhere list sub t none h = let bad : Err (0, misfits.Entry BadElement) ≡ spelling_told t = sym (ap (λ s. inside_of (depth + 1) s inner es) none) ∙ h in absurd cc
+  nowhere list sub t none h = let bad : Err (0, BadDepth) ≡ spelling_told t = sym (ap (λ s. inside_of (depth + 1) s inner es) none) ∙ h in absurd cc
 
   inside_same : (reader : Option Family) (own : Fields) (q t : List ℕ) → value_payload (Attributes set) reader own true e octets ≡ Ok q → inside_of (depth + 1) (scope_below (Attributes set) reader own e) inner es ≡ Ok t
       → spelled.elements_of (elements_at attributes e.kind) own e.kind octets 0 (list_at depth es) ≡ Ok t
@@ -304,7 +297,8 @@ module _ (octets : List ℕ) (set : Family) (depth : ℕ) (x : Kinds) (e : Entry
       let g = type_for (Attributes set) x.address_family i own e in
       let reader = set_for (Attributes set) x g in
       let follow = is_above depth es in
-      let is : attribute_with octets (Attributes set) depth x i own e es inner ≡ Ok a = sym (ap (λ b. value_by (Some (cond b (fields.Passed form_held None) own)) octets (Attributes set) depth x i e es inner) row) ∙ h in
+      let placed = sym (ap (λ b. value_by (Some (cond b (fields.Passed form_held None) own)) octets (Attributes set) depth x i e es inner) row) ∙ h in
+      let is = (if_held (is_placed (Attributes set) own e) (0, BadDepth) (attribute_with octets (Attributes set) depth x i own e es inner) a placed).1 in
       let (p, payload, short, frame) = fitted_ok g (payload_with octets (Attributes set) depth x i own e es inner) a is in
       let (q, t, mine, others, join) = before_ok (alone (value_payload (Attributes set) reader own follow e octets)) (below_of depth (scope_below (Attributes set) reader own e) inner es) p payload in
       let value = alone_ok (value_payload (Attributes set) reader own follow e octets) q mine in

@@ -1,23 +1,43 @@
 -- A request, from what its values spell.
 use borrow.Rule.Slice.PartMut.{put_mid}
-use Rattle.std.proofs.Common.{◌≡◌, ℕ, ◌+◌, ◌-◌, ◌<◌, ◌≤◌, ◌^◌, Bool, true, false, List, ◌++◌, length, take, drop, Option, Some, None, Result, Ok, Err, cond, bit_or, refl, sym, ap, ap₂, subst, ◌∙◌, arith, length-append}
+use Rattle.std.proofs.Common.{◌≡◌, ◌≢◌, ℕ, ◌+◌, ◌-◌, ◌<◌, ◌≤◌, ◌^◌, Bool, true, false, List, ◌++◌, length, take, drop, Option, Some, None, Result, Ok, Err, cond, bit_or, refl, sym, ap, ap₂, subst, ◌∙◌, arith, length-append}
 use Rattle.std.specs.Prelude.{nat_lt}
-use Rattle.std.proofs.lemmas.Bool.{lt-ltb, le-ltb, ltb-true}
+use Rattle.std.proofs.lemmas.Bool.{lt-ltb, le-ltb, ltb-true, eq-eqb, ne_eqb}
 use Rattle.std.proofs.lemmas.List.{append-nil, take_at}
 use Rattle.link_base.specs.Number.{bytes_of}
 use Rattle.link_base.specs.Answers.{capped}
 use Rattle.link_messages.specs.Message.{packet_bytes}
 use Rattle.link_entries.specs.declared.entry.Entry.{Entry}
-use Rattle.link_entries.specs.Stored.{StoresAt, StoresBytes}
-use Rattle.link_entries.proofs.StoredBytes.{stored_then, stored_part}
+use Rattle.link_entries.specs.declared.misfit.Misfit.{Misfit}
+use Rattle.link_entries.specs.declared.misfit.Misfit.TheVariants.{Repeated}
+use Rattle.link_entries.specs.declared.misfit.MisfitAt.{MisfitAt}
+use Rattle.link_entries.specs.Spelled.{Spelling}
+use Rattle.link_entries.specs.Stored.{StoresAt, StoresBytes, Spells}
+use Rattle.link_entries.proofs.StoredBytes.{stored_then, stored_part, spells_ok, spells_err}
 use Rattle.link_requests.specs.declared.head.Head.{Head}
-use Rattle.link_requests.specs.declared.misfit.ValueMisfit.{ValueMisfit}
-use Rattle.link_requests.specs.declared.misfit.ValueMisfitAt.{ValueMisfitAt}
 use Rattle.link_requests.specs.declared.misfit.RequestError.{RequestError}
 use Rattle.link_requests.specs.declared.misfit.RequestError.TheVariants.{Value, TooLarge}
-use Rattle.link_requests.specs.Spelling.{Spelling, Spells}
-use Rattle.link_requests.specs.Request.{head_error, link_head, packet_with, attributes_of, fitting, checked, request_of, sized, Stores}
-use Rattle.link_requests.proofs.StoredValues.{spells_ok, spells_err}
+use Rattle.link_requests.specs.Request.{head_error, link_head, packet_with, attributes_of, up_to, fitting, checked, request_of, sized, Stores}
+
+-- ---- the attributes
+
+-- the next value repeats a list
+pub spells_repeated : (n m k : ℕ) (t : Spelling) (old new : List ℕ) → n < m → Spells t old new (Ok k) → Spells (up_to n m t) old new (Err (record { index = n; misfit = Repeated }))
+spells_repeated n m k (Ok s) old new more h =
+    let differ : n ≢ m = λ same. absurd (omega (arith, same, more)) in
+    let is : up_to n m (Ok s) ≡ Err (n, Repeated) = ap (λ b. cond {A = Spelling} b (Ok s) (Err (n, Repeated))) (ne_eqb n m differ) in
+    subst (λ u. Spells u old new (Err (record { index = n; misfit = Repeated }))) (sym is) (refl, h.1.same)
+spells_repeated n m k (Err e) old new more h = absurd cc
+
+-- there is no further value
+pub spells_up_to : (n m k : ℕ) (t : Spelling) (old new : List ℕ) → n ≡ m → Spells t old new (Ok k) → Spells (up_to n m t) old new (Ok k)
+spells_up_to n m k (Ok s) old new all h = subst (λ u. Spells u old new (Ok k)) (sym (ap (λ b. cond {A = Spelling} b (Ok s) (Err (n, Repeated))) (eq-eqb n m all))) h
+spells_up_to n m k (Err e) old new all h = absurd cc
+
+-- a value before it cannot be written
+pub spells_before : (n m : ℕ) (first : MisfitAt) (t : Spelling) (old new : List ℕ) → Spells t old new (Err first) → Spells (up_to n m t) old new (Err first)
+spells_before n m first (Ok s) old new h = absurd cc
+spells_before n m first (Err e) old new h = h
 
 -- ---- the message
 
@@ -63,7 +83,7 @@ module _ (head : Head) (octets : List ℕ) (es : List Entry) where
       let fits = ap (λ b. cond b (Ok (packet_bytes (packet_with head s))) (Err TooLarge)) (le-ltb (32 + length s) (2 ^ 32) large) in
       ap sized (sym (request_by (Ok s) none is ∙ fits))
 
-  pub measured_bad : (first : ValueMisfitAt) → head_error head ≡ None → spelling ≡ Err (first.index, first.misfit) → Err (Value first) ≡ sized (request_of head octets es)
+  pub measured_bad : (first : MisfitAt) → head_error head ≡ None → spelling ≡ Err (first.index, first.misfit) → Err (Value first) ≡ sized (request_of head octets es)
   measured_bad first none is = ap sized (sym (request_by (Err (first.index, first.misfit)) none is))
 
   -- what a length says of it
@@ -98,7 +118,7 @@ module _ (head : Head) (octets : List ℕ) (es : List Entry) where
   in_front n old new w put within =
       let s = w.attributes in
       let size : length s ≡ n - 32 = omega (arith, w.size) in
-      let stored : StoresAt 0 s old new = subst (λ r. StoresBytes {E = ℕ × ValueMisfit} r old new) w.spelled put in
+      let stored : StoresAt 0 s old new = subst (λ r. StoresBytes {E = ℕ × Misfit} r old new) w.spelled put in
       let is = stored.stored (omega (arith, size, within, stored.same)) in
       w.spelled ∙ ap Ok (sym (ap (take (n - 32)) is ∙ take_at s (drop (0 + length s) old) (n - 32) size))
 
@@ -125,11 +145,11 @@ module _ (head : Head) (octets : List ℕ) (es : List Entry) where
   pub no_room : (n : ℕ) (out : List ℕ) → IsWritten n → length out < n → Stores (request_of head octets es) out out (Ok None)
   no_room n out w small = subst (λ r. Stores r out out (Ok None)) (sym w.is) (omega (arith, small, w.size, packet_length head w.attributes), refl)
 
-  different : (s : List ℕ) (e : ℕ × ValueMisfit) → Ok s ≡ Err e → ⊥
+  different : (s : List ℕ) (e : ℕ × Misfit) → Ok s ≡ Err e → ⊥
   different s e wrong = absurd cc
 
   -- an error that there is not
-  pub no_error : (n : ℕ) (x y : List ℕ) (first : ValueMisfitAt) → {P : Type 0} → IsWritten n → Spells spelling x y (Err first) → P
+  pub no_error : (n : ℕ) (x y : List ℕ) (first : MisfitAt) → {P : Type 0} → IsWritten n → Spells spelling x y (Err first) → P
   no_error n x y first w h = absurd (different w.attributes (first.index, first.misfit) (sym w.spelled ∙ (spells_err spelling x y first h).0))
 
 -- a request that cannot be written

@@ -4,7 +4,7 @@ use Rattle.std.proofs.lemmas.Bool.{eq-eqb, ne_eqb, le-ltb}
 use Rattle.link_entries.specs.declared.entry.Entry.{Entry}
 use Rattle.link_requests.specs.declared.level.Scope.{Scope}
 use Rattle.link_requests.specs.Opening.{Kinds}
-use Rattle.link_requests.specs.Spelling.{Spelling, before}
+use Rattle.link_entries.specs.Spelled.{Spelling, before}
 use Rattle.link_requests.specs.Value.{value_of}
 use Rattle.link_requests.specs.Values.{values_of, inner_of}
 

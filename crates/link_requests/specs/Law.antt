@@ -1,9 +1,10 @@
 -- What readers find in a request.
-use Rattle.std.specs.Prelude.{◌≡◌, ℕ, ◌+◌, ◌-◌, ◌<◌, ◌^◌, ◌==◌, Bool, true, false, List, [], ◌∷◌, ◌++◌, length, Option, Some, None, Ok, nat_lt, FitsSigned, if◌then◌else◌}
+use Rattle.std.specs.Prelude.{◌≡◌, ◌⊎◌, ℕ, ◌+◌, ◌-◌, ◌<◌, ◌^◌, ◌==◌, ◌&&◌, Bool, true, false, List, [], ◌∷◌, ◌++◌, length, Option, Some, None, Ok, nat_lt, FitsSigned, if◌then◌else◌}
 use Rattle.std.specs.Int.{w32}
-use Rattle.std.specs.List.{AllZip}
+use Rattle.std.specs.List.{AllZip, filter}
 use Rattle.link_base.specs.Frame.{Frame, Frames}
 use Rattle.netlink_packet_route.specs.declared.family.Family.{Family}
+use Rattle.netlink_packet_route.specs.declared.family.Family.TheVariants.{Link}
 use Rattle.link_messages.specs.declared.buffer_parts.Message.{Message}
 use Rattle.link_messages.specs.declared.header.LinkHeader.{LinkHeader}
 use Rattle.link_messages.specs.Message.{packet_of}
@@ -13,8 +14,8 @@ use Rattle.link_requests.specs.declared.head.Head.{Head}
 use Rattle.link_requests.specs.declared.level.Scope.{Scope}
 use Rattle.link_requests.specs.declared.level.Scope.TheVariants.{Numbers}
 use Rattle.link_requests.specs.Opening.{Kinds}
-use Rattle.link_requests.specs.Spelling.{Spelling}
-use Rattle.link_requests.specs.Value.{inline, is_protinfo, row_for, type_for, payload_with}
+use Rattle.link_entries.specs.Spelled.{Spelling}
+use Rattle.link_requests.specs.Value.{inline, is_protinfo, attribute_fields, row_for, of_message, names_form, type_for, payload_with}
 use Rattle.link_requests.specs.Values.{inner_of}
 use Rattle.link_requests.specs.Request.{packet_with, attributes_of}
 
@@ -76,6 +77,20 @@ Consists s attributes = (xs : List Frame) × Frames s xs × AllZip IsFrameOf att
 abbrev pub has_attributes : Scope → Bool
 has_attributes (Numbers a list) = false
 has_attributes scope = true
+
+-- ---- the attributes of the message
+
+-- a value that is one is marked, or has to name its form
+abbrev pub IsOwn : ℕ → Entry → Type 0
+IsOwn address_family e = e.depth ≡ 0 → (e.inner ≡ of_message) ⊎ (names_form (attribute_fields Link address_family e) ≡ true)
+
+-- it is not marked
+abbrev pub IsUnmarked : Entry → Type 0
+IsUnmarked e = e.depth ≡ 0 → e.inner ≡ 0
+
+-- those of one type
+abbrev pub of_type : ℕ → List Entry → List Entry
+of_type k es = filter (λ e. (e.depth == 0) && (e.kind == k)) es
 
 -- ---- values without values of other sets
 

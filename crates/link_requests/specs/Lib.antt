@@ -1,6 +1,6 @@
 pub mod Names
 pub mod Opening
-pub mod Spelling
+pub mod Lists
 pub mod Value
 pub mod Values
 pub mod Request

@@ -1,19 +1,19 @@
 -- The bytes of a request, or why it cannot be written (`include/uapi/linux/netlink.h`, `rtnetlink.h`).
-use Rattle.std.specs.Prelude.{◌≡◌, ℕ, ◌+◌, ◌<◌, ◌≤◌, ◌^◌, ◌==◌, ◌&&◌, ◌||◌, Bool, true, false, List, [], ◌∷◌, ◌++◌, length, ℤ, pos, Option, Some, None, Result, Ok, Err, nat_lt, int_le, bit_and, bit_or, if◌then◌else◌}
+use Rattle.std.specs.Prelude.{◌≡◌, ℕ, ◌+◌, ◌<◌, ◌≤◌, ◌^◌, ◌==◌, ◌&&◌, ◌||◌, Bool, true, false, List, [], ◌∷◌, ◌++◌, length, take, ℤ, pos, Option, Some, None, Result, Ok, Err, nat_lt, int_le, bit_and, bit_or, if◌then◌else◌}
 use Rattle.std.specs.Int.{w32, cast_unsigned}
 use Rattle.link_base.specs.Number.{bytes_of}
 use Rattle.link_base.specs.Answers.{OverwritesFront}
 use Rattle.netlink_packet_route.specs.declared.family.Family.TheVariants.{Link}
 use Rattle.link_messages.specs.Message.{Packet, packet_bytes}
 use Rattle.link_entries.specs.declared.entry.Entry.{Entry}
-use Rattle.link_entries.specs.declared.misfit.Misfit.TheVariants.{BadElement}
+use Rattle.link_entries.specs.declared.misfit.Misfit.TheVariants.{BadDepth, Repeated}
 use Rattle.link_requests.specs.declared.head.Head.{Head}
 use Rattle.link_requests.specs.declared.level.Scope.TheVariants.{Attributes}
-use Rattle.link_requests.specs.declared.misfit.ValueMisfit.TheVariants as misfits
 use Rattle.link_requests.specs.declared.misfit.RequestError.{RequestError}
 use Rattle.link_requests.specs.declared.misfit.RequestError.TheVariants.{BadType, NoIndex, Value, TooLarge}
 use Rattle.link_requests.specs.Opening.{no_kinds}
-use Rattle.link_requests.specs.Spelling.{Spelling, at_fault}
+use Rattle.link_entries.specs.Spelled.{Spelling, at_fault}
+use Rattle.link_requests.specs.Lists.{unrepeated}
 use Rattle.link_requests.specs.Value.{begins_at}
 use Rattle.link_requests.specs.Values.{values_of}
 
@@ -71,11 +71,17 @@ packet_with head attributes = record {
 
 -- ---- the request
 
+-- what the first n of m values spell; if there are more, the next repeats a list
+abbrev pub up_to : ℕ → ℕ → Spelling → Spelling
+up_to n m (Ok s) = if n == m then Ok s else Err (n, Repeated)
+up_to n m (Err e) = Err e
+
 -- what the values spell
 abbrev pub attributes_of : Head → List ℕ → List Entry → Spelling
 attributes_of head octets es =
-    if begins_at 0 es then values_of octets (Attributes Link) 0 (no_kinds head.address_family) 0 es
-    else Err (0, misfits.Entry BadElement)
+    let n = unrepeated [] es in
+    if begins_at 0 es then up_to n (length es) (values_of octets (Attributes Link) 0 (no_kinds head.address_family) 0 (take n es))
+    else Err (0, BadDepth)
 
 -- the message, if its length is a u32
 abbrev pub fitting : Head → Spelling → Result (List ℕ) RequestError

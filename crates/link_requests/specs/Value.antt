@@ -1,26 +1,25 @@
 -- What one value of a request spells: its attribute, element or number.
-use Rattle.std.specs.Prelude.{ℕ, ◌+◌, ◌-◌, ◌^◌, ◌%◌, ◌==◌, ◌&&◌, ◌||◌, Bool, true, false, List, [], ◌∷◌, take, Option, Some, None, Result, Ok, Err, nat_le, nat_lt, if◌then◌else◌}
+use Rattle.std.specs.Prelude.{ℕ, ◌+◌, ◌-◌, ◌^◌, ◌%◌, ◌==◌, ◌&&◌, ◌||◌, Bool, true, false, not, List, [], ◌∷◌, take, Option, Some, None, Result, Ok, Err, nat_le, nat_lt, if◌then◌else◌}
 use Rattle.std.specs.Option.{option_map}
 use Rattle.link_base.specs.declared.rows.form.ArrayOf.{ArrayOf}
 use Rattle.link_base.specs.Borrowed.{elements_at}
 use Rattle.netlink_packet_route.specs.declared.family.Family.{Family}
+use Rattle.netlink_packet_route.specs.declared.family.Family.TheVariants.{Link}
 use Rattle.netlink_packet_route.specs.Family.{table_of}
 use Rattle.netlink_packet_route.specs.Opening.{without_nul}
 use Rattle.link_entries.specs.declared.entry.Entry.{Entry}
 use Rattle.link_entries.specs.declared.fields.Fields.{Fields}
 use Rattle.link_entries.specs.declared.fields.Fields.TheVariants as fields
 use Rattle.link_entries.specs.declared.misfit.Misfit.{Misfit}
-use Rattle.link_entries.specs.declared.misfit.Misfit.TheVariants.{BadForm, BadElement, BadOctets}
+use Rattle.link_entries.specs.declared.misfit.Misfit.TheVariants.{BadForm, BadElement, BadOctets, BadDepth, BadName, NoSet}
 use Rattle.link_entries.specs.Forms.{form_held}
 use Rattle.link_entries.specs.Fields.{array_number, ip_address, fields_at}
-use Rattle.link_entries.specs.Payload.{only_if, passed, payload_of, field_of}
+use Rattle.link_entries.specs.Payload.{has_form, only_if, has_size, passed, payload_of, field_of}
 use Rattle.link_requests.specs.declared.level.Scope.{Scope}
 use Rattle.link_requests.specs.declared.level.Scope.TheVariants.{Attributes, Elements, Numbers, Addresses}
-use Rattle.link_requests.specs.declared.misfit.ValueMisfit.{ValueMisfit}
-use Rattle.link_requests.specs.declared.misfit.ValueMisfit.TheVariants as misfits
 use Rattle.link_requests.specs.Names.{is_name, is_kind}
 use Rattle.link_requests.specs.Opening.{Kinds, is_link, set_at}
-use Rattle.link_requests.specs.Spelling.{Spelling, alone, before, fitted, of_entry}
+use Rattle.link_entries.specs.Spelled.{Spelling, alone, before, fitted}
 
 -- ---- rows
 
@@ -28,12 +27,33 @@ use Rattle.link_requests.specs.Spelling.{Spelling, alone, before, fitted, of_ent
 abbrev pub is_protinfo : Family → ℕ → Entry → Bool
 is_protinfo set address_family e = is_link set && ((address_family == 7) && ((e.kind == 12) && (e.form == form_held)))
 
--- which fields make the payload of a value; none if the list has no such value
+-- which fields make the payload of an attribute of a set
+abbrev pub attribute_fields : Family → ℕ → Entry → Fields
+attribute_fields set address_family e = if is_protinfo set address_family e then fields.Passed form_held None else fields_at (table_of set) e.kind
+
+-- likewise for any value; none if the list has no such value
 abbrev pub row_for : Scope → ℕ → Entry → Option Fields
-row_for (Attributes set) address_family e = Some (if is_protinfo set address_family e then fields.Passed form_held None else fields_at (table_of set) e.kind)
+row_for (Attributes set) address_family e = Some (attribute_fields set address_family e)
 row_for (Elements set list) address_family e = if e.kind == list then Some (fields_at (elements_at (table_of set) list) e.inner) else None
 row_for (Numbers a list) address_family e = if e.kind == list then Some (array_number a) else None
 row_for (Addresses size list) address_family e = if e.kind == list then Some (ip_address size) else None
+
+-- the `inner` of a value that is an attribute of the message
+abbrev pub of_message : ℕ
+of_message = 2 ^ 16 - 1
+
+-- whether values with these fields have to name their form
+abbrev pub names_form : Fields → Bool
+names_form (fields.Passed form None) = true
+names_form fields.Unknown = true
+names_form own = false
+
+-- whether a value is in the list that it is meant for: an attribute of the message is marked, unless it has to name its form; no
+-- attribute of another list is
+abbrev pub is_placed : Scope → Fields → Entry → Bool
+is_placed (Attributes Link) own e = (e.inner == of_message) || names_form own
+is_placed (Attributes set) own e = not (e.inner == of_message)
+is_placed scope own e = true
 
 -- the attribute type of a value
 abbrev pub kind_for : Scope → Entry → ℕ
@@ -63,9 +83,9 @@ is_held own = false
 abbrev pub inline : ℕ
 inline = 2 ^ 64 - 1
 
--- the bytes of a value
-abbrev pub value_bytes : Entry → List ℕ → Result (List ℕ) Misfit
-value_bytes e octets = if e.offset == inline then only_if (nat_le e.length 16) BadOctets (take e.length e.octets) else passed None e octets
+-- the bytes of a value; their number, if it is fixed
+abbrev pub value_bytes : Option ℕ → Entry → List ℕ → Result (List ℕ) Misfit
+value_bytes size e octets = if e.offset == inline then only_if (has_size size e && nat_le e.length 16) BadOctets (take e.length e.octets) else passed size e octets
 
 -- whether Linux takes these bytes: in the set `link` of an IFLA_IFNAME (3), and in an IFLA_LINKINFO (18) of an IFLA_INFO_KIND
 -- (1) and an IFLA_INFO_SLAVE_KIND (4)
@@ -74,31 +94,32 @@ is_allowed (Attributes set) k p = if is_link set && (k == 3) then is_name (witho
 is_allowed (Elements set list) k p = if is_link set && ((list == 18) && ((k == 1) || (k == 4))) then is_kind (without_nul p) else true
 is_allowed scope k p = true
 
-abbrev pub allowed : Scope → ℕ → Result (List ℕ) Misfit → Result (List ℕ) ValueMisfit
-allowed scope k (Ok p) = if is_allowed scope k p then Ok p else Err misfits.BadName
-allowed scope k (Err misfit) = Err (misfits.Entry misfit)
+abbrev pub allowed : Scope → ℕ → Result (List ℕ) Misfit → Result (List ℕ) Misfit
+allowed scope k (Ok p) = if is_allowed scope k p then Ok p else Err BadName
+allowed scope k (Err misfit) = Err misfit
 
 -- nothing, if a set reads the values that follow
-abbrev pub announced : Option Family → Result (List ℕ) ValueMisfit
-announced None = Err misfits.NoSet
+abbrev pub announced : Option Family → Result (List ℕ) Misfit
+announced None = Err NoSet
 announced (Some set) = Ok []
 
 -- a list of another set: its values follow if and only if it refers to no bytes
-abbrev pub held_payload : Option Family → Bool → Entry → List ℕ → Result (List ℕ) ValueMisfit
+abbrev pub held_payload : Option Family → Bool → Entry → List ℕ → Result (List ℕ) Misfit
 held_payload reader follow e octets =
-    if e.offset == inline then (if follow then announced reader else Err (misfits.Entry BadElement))
-    else (if follow then Err (misfits.Entry BadElement) else of_entry (passed None e octets))
+    if e.offset == inline then (if follow then announced reader else Err BadDepth)
+    else (if follow then Err BadDepth else passed None e octets)
 
 -- bytes of any length: the value has to say their form, so that no number is one
-abbrev pub bytes_payload : Scope → ℕ → Option Family → Bool → Entry → List ℕ → Result (List ℕ) ValueMisfit
+abbrev pub bytes_payload : Scope → ℕ → Option Family → Bool → Entry → List ℕ → Result (List ℕ) Misfit
 bytes_payload scope form reader follow e octets =
-    if e.form == form then (if form == form_held then held_payload reader follow e octets else allowed scope (kind_for scope e) (value_bytes e octets))
-    else Err (misfits.Entry BadForm)
+    if e.form == form then (if form == form_held then held_payload reader follow e octets else allowed scope (kind_for scope e) (value_bytes None e octets))
+    else Err BadForm
 
 -- the payload of a value, without what follows
-abbrev pub value_payload : Scope → Option Family → Fields → Bool → Entry → List ℕ → Result (List ℕ) ValueMisfit
+abbrev pub value_payload : Scope → Option Family → Fields → Bool → Entry → List ℕ → Result (List ℕ) Misfit
 value_payload scope reader (fields.Passed form None) follow e octets = bytes_payload scope form reader follow e octets
-value_payload scope reader own follow e octets = of_entry (payload_of own (record e { kind = kind_for scope e }) octets)
+value_payload scope reader (fields.Passed form size) follow e octets = if has_form (fields.Passed form size) e then value_bytes size e octets else Err BadForm
+value_payload scope reader own follow e octets = payload_of own (record e { kind = kind_for scope e }) octets
 
 -- ---- what follows a value, one deeper
 
@@ -122,8 +143,8 @@ scope_below scope reader own e = None
 
 -- what they spell; `inner` is what they spell in a list
 abbrev pub inside_of : ℕ → Option Scope → (Scope → Spelling) → List Entry → Spelling
-inside_of depth None inner es = Err (0, misfits.Entry BadElement)
-inside_of depth (Some scope) inner es = if begins_at depth es then inner scope else Err (0, misfits.Entry BadElement)
+inside_of depth None inner es = Err (0, BadDepth)
+inside_of depth (Some scope) inner es = if begins_at depth es then inner scope else Err (0, BadDepth)
 
 abbrev pub below_of : ℕ → Option Scope → (Scope → Spelling) → List Entry → Spelling
 below_of depth scope inner es = if is_above depth es then inside_of (depth + 1) scope inner es else Ok []
@@ -132,7 +153,7 @@ below_of depth scope inner es = if is_above depth es then inside_of (depth + 1) 
 
 -- a number of an array; nothing may follow it
 abbrev pub number_with : ArrayOf → ℕ → Entry → List Entry → Spelling
-number_with a depth e es = before (alone (of_entry (payload_of (array_number a) e []))) (if is_above depth es then Err (0, misfits.Entry BadElement) else Ok [])
+number_with a depth e es = before (alone (payload_of (array_number a) e [])) (if is_above depth es then Err (0, BadDepth) else Ok [])
 
 -- the payload of an attribute with these fields, at this index and depth of a list, with what follows it
 abbrev pub payload_with : List ℕ → Scope → ℕ → Kinds → ℕ → Fields → Entry → List Entry → (Scope → Spelling) → Spelling
@@ -149,8 +170,8 @@ value_with octets (Numbers a list) depth x i own e es inner = number_with a dept
 value_with octets scope depth x i own e es inner = attribute_with octets scope depth x i own e es inner
 
 abbrev pub value_by : Option Fields → List ℕ → Scope → ℕ → Kinds → ℕ → Entry → List Entry → (Scope → Spelling) → Spelling
-value_by None octets scope depth x i e es inner = Err (0, misfits.Entry BadElement)
-value_by (Some own) octets scope depth x i e es inner = value_with octets scope depth x i own e es inner
+value_by None octets scope depth x i e es inner = Err (0, BadElement)
+value_by (Some own) octets scope depth x i e es inner = if is_placed scope own e then value_with octets scope depth x i own e es inner else Err (0, BadDepth)
 
 abbrev pub value_of : List ℕ → Scope → ℕ → Kinds → ℕ → Entry → List Entry → (Scope → Spelling) → Spelling
 value_of octets scope depth x i e es inner = value_by (row_for scope x.address_family e) octets scope depth x i e es inner

@@ -7,7 +7,7 @@ use Rattle.link_entries.specs.declared.misfit.Misfit.{Misfit}
 use Rattle.link_requests.specs.declared.level.Scope.{Scope}
 use Rattle.link_requests.specs.declared.level.Scope.TheVariants.{Elements}
 use Rattle.link_requests.specs.Opening.{Kinds}
-use Rattle.link_requests.specs.Spelling.{Spelling, before}
+use Rattle.link_entries.specs.Spelled.{Spelling, before}
 use Rattle.link_requests.specs.Value.{value_bytes, value_of}
 
 -- ---- the kinds beside a value
@@ -23,7 +23,7 @@ text_in (Ok p) = Some (without_nul p)
 text_in (Err misfit) = None
 
 abbrev pub text_among : List ℕ → ℕ → ℕ → List Entry → Option (List ℕ)
-text_among octets depth k es = option_and_then (λ e. text_in (value_bytes e octets)) (last_among depth k None es)
+text_among octets depth k es = option_and_then (λ e. text_in (value_bytes None e octets)) (last_among depth k None es)
 
 -- the kinds among the elements of a nested list: IFLA_INFO_KIND (1) and IFLA_INFO_SLAVE_KIND (4), before or after the value
 abbrev pub kinds_among : List ℕ → ℕ → ℕ → List Entry → Kinds

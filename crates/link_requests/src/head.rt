@@ -5,11 +5,9 @@ ghost use Rattle.link_requests.specs.Request.{head_with, bridge_with, is_request
 
 use crate::misfit::RequestError;
 use link_messages::link_types::AF_BRIDGE;
-use link_messages::message_types::{RTM_DELLINK, RTM_GETLINK, RTM_NEWLINK, RTM_SETLINK};
-
-const RTM_NEWLINKPROP: u16 = 108;
-
-const RTM_DELLINKPROP: u16 = 109;
+use link_messages::message_types::{
+    RTM_DELLINK, RTM_DELLINKPROP, RTM_GETLINK, RTM_NEWLINK, RTM_NEWLINKPROP, RTM_SETLINK,
+};
 
 // Flags of requests (`include/uapi/linux/netlink.h`).
 

@@ -1,6 +1,6 @@
 //! Theorems about requests. The functions have empty bodies; each states its theorem as its contract.
 
-ghost use Rattle.std.specs.Prelude.{◌≡◌, ◌↔◌, IsTrue, ℕ, List, Option, Some, Result, Ok, true};
+ghost use Rattle.std.specs.Prelude.{◌≡◌, ◌↔◌, ◌≤◌, IsTrue, ℕ, List, length, Option, Some, Result, Ok, true};
 ghost use Rattle.std.specs.List.{AllByRecursion};
 ghost use Rattle.netlink_packet_route.specs.declared.family.Family.{Family};
 ghost use Rattle.netlink_packet_route.specs.declared.family.Family.TheVariants.{Link};
@@ -11,21 +11,22 @@ ghost use Rattle.link_messages.specs.declared.message.MessageError.{MessageError
 ghost use Rattle.link_messages.specs.Message.{NextMessage, packet_of};
 ghost use Rattle.link_messages.specs.Header.{HasLinkHeader};
 ghost use Rattle.link_entries.specs.declared.entry.Entry.{Entry};
+ghost use Rattle.link_base.specs.Table.{Table};
+ghost use Rattle.link_entries.specs.Flat.{Flat};
 ghost use Rattle.link_entries.specs.Spelled.{spelled_by};
 ghost use Rattle.link_requests.specs.declared.head.Head.{Head};
-ghost use Rattle.link_requests.specs.declared.misfit.ValueMisfit.{ValueMisfit};
-ghost use Rattle.link_requests.specs.declared.misfit.ValueMisfitAt.{ValueMisfitAt};
 ghost use Rattle.link_requests.specs.declared.misfit.RequestError.{RequestError};
 ghost use Rattle.link_requests.specs.declared.level.Scope.{Scope};
 ghost use Rattle.link_requests.specs.declared.level.Scope.TheVariants.{Attributes};
 ghost use Rattle.link_requests.specs.Opening.{Kinds, no_kinds};
+ghost use Rattle.link_requests.specs.Lists.{is_single};
 ghost use Rattle.link_requests.specs.Value.{begins_at};
 ghost use Rattle.link_requests.specs.Values.{values_of};
 ghost use Rattle.link_requests.specs.Request.{attributes_of, request_of};
-ghost use Rattle.link_requests.specs.Law.{IsHead, IsMessageOf, IsHeaderOf, attributes_in, Consists, has_attributes, IsPlain, list_at};
+ghost use Rattle.link_requests.specs.Law.{IsHead, IsMessageOf, IsHeaderOf, attributes_in, Consists, has_attributes, IsOwn, IsUnmarked, of_type, IsPlain, list_at};
 
 use crate::head::Head;
-use crate::misfit::{RequestError, ValueMisfit, ValueMisfitAt};
+use crate::misfit::RequestError;
 
 /// In what [`write_request`](crate::write_request) writes, [`next_message`](link_messages::next_message) finds one message: its
 /// type, sequence and port are those of the head, its flags are those of the head and NLM_F_REQUEST, its attributes are those
@@ -52,6 +53,17 @@ pub fn attributes_found()
         → values_of octets scope depth x i es ≡ Ok s → Consists s (attributes_in octets scope depth x i es) }
 {}
 
+/// Of what is written, each attribute of the message is marked, or has to name its form, and there is at most one
+/// `IFLA_PROTINFO`, `IFLA_LINKINFO` and `IFLA_AF_SPEC`. The entries of a list of any set are not marked: where their depth was
+/// forgotten, they are not written, unless they name the form of an attribute of the message.
+pub fn marks()
+    ensures marked { (head : Head) (octets s : List ℕ) (es : List Entry) → attributes_of head octets es ≡ Ok s
+        → AllByRecursion (IsOwn head.address_family) es }
+    ensures once { (head : Head) (octets s : List ℕ) (es : List Entry) (k : ℕ) → attributes_of head octets es ≡ Ok s
+        → is_single k ≡ true → length (of_type k es) ≤ 1 }
+    ensures read { (table : Table) (list : List ℕ) (es : List Entry) → Flat table list es → AllByRecursion IsUnmarked es }
+{}
+
 /// Values that refer to their bytes, and among which are no lists of other sets with values, spell what
 /// [`link_entries::write`] writes for them as a list of their own. So the theorems about entries hold for them: what they spell
 /// decodes, and its entries are the values.
@@ -64,7 +76,5 @@ pub fn plain_values()
 /// Two errors, or two heads, are equal (`==`) if and only if they are identical.
 pub fn equality()
     ensures error { (a b : RequestError) → IsTrue (⟦<RequestError as PartialEq>⟧.eq a b) ↔ (a ≡ b) }
-    ensures at { (a b : ValueMisfitAt) → IsTrue (⟦<ValueMisfitAt as PartialEq>⟧.eq a b) ↔ (a ≡ b) }
-    ensures misfit { (a b : ValueMisfit) → IsTrue (⟦<ValueMisfit as PartialEq>⟧.eq a b) ↔ (a ≡ b) }
     ensures head { (a b : Head) → IsTrue (⟦<Head as PartialEq>⟧.eq a b) ↔ (a ≡ b) }
 {}

@@ -5,7 +5,7 @@ ghost use Rattle.link_base.specs.Borrowed.{elements_at};
 ghost use Rattle.netlink_packet_route.specs.Family.{table_of};
 ghost use Rattle.link_entries.specs.Fields.{IsNarrow, fields_at};
 ghost use Rattle.link_requests.specs.Opening.{kinds_of};
-ghost use Rattle.link_requests.specs.Value.{is_protinfo, row_for, kind_for, type_for, set_for, is_held, is_allowed, scope_below, is_above, begins_at};
+ghost use Rattle.link_requests.specs.Value.{is_protinfo, row_for, is_placed, names_form, kind_for, type_for, set_for, is_held, is_allowed, scope_below, is_above, begins_at};
 ghost use Rattle.link_requests.specs.Values.{kinds_in, kinds_among};
 ghost use Rattle.link_requests.specs.declared.level.Scope.TheVariants.{Attributes};
 
@@ -20,6 +20,9 @@ use link_entries::spelling::field_of;
 use link_entries::{Entry, forms};
 use link_messages::link_types::{AF_BRIDGE, IFLA_IFNAME, IFLA_LINKINFO, IFLA_PROTINFO};
 use netlink_packet_route::{Context, Family, FamilyElements, FamilySet, port_kind_in, without_nul};
+
+/// The `inner` of a value that is an attribute of the message.
+pub const OF_MESSAGE: u16 = u16::MAX;
 
 const IFLA_INFO_KIND: u16 = 1;
 
@@ -104,6 +107,25 @@ fn is_protinfo(family: Family, address_family: u8, entry: &Entry) -> bool
         && address_family == AF_BRIDGE
         && entry.kind == IFLA_PROTINFO
         && entry.form == forms::HELD
+}
+
+/// Checks whether a value is in the list that it is meant for: an attribute of the message is marked as such, or names its form;
+/// one of another set is not marked.
+pub(crate) fn is_placed(scope: Scope, own: Fields, entry: &Entry) -> bool
+    ensures { result ≡ is_placed scope own entry.now }
+{
+    match scope {
+        Scope::Attributes(Family::Link) => entry.inner == OF_MESSAGE || names_form(own),
+        Scope::Attributes(_) => entry.inner != OF_MESSAGE,
+        _ => true,
+    }
+}
+
+/// Checks whether values with these fields have to name their form.
+fn names_form(own: Fields) -> bool
+    ensures { result ≡ names_form own }
+{
+    matches!(own, Fields::Passed { size: None, .. } | Fields::Unknown)
 }
 
 /// Returns the `nla_type` of the value at this index of a list.

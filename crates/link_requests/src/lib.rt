@@ -5,6 +5,8 @@
 //! - Values are [`Entry`](link_entries::Entry)s of the set `link`, in the order of the message. The elements of a list follow
 //!   it, one deeper. A value of form [`HELD`](link_entries::forms::HELD) whose offset is [`INLINE`] is followed by the values of
 //!   its list, one deeper too; another set reads them, which [`opened`](netlink_packet_route::opened) tells.
+//! - Depth decides what a value is: 0 is the message, 1 `IFLA_LINKINFO`, 2 `IFLA_INFO_DATA`. So that a value whose depth was
+//!   forgotten is an error, attributes of the message are marked: their `inner` is [`OF_MESSAGE`].
 //! - [`write_request`] writes the message, and [`measure`] returns its length. [`laws`] has theorems about it.
 #![tactic(auto)]
 
@@ -12,6 +14,7 @@ mod context;
 mod head;
 pub mod laws;
 mod level;
+mod lists;
 mod misfit;
 mod names;
 #[cfg(test)]
@@ -22,6 +25,7 @@ mod values;
 mod writing;
 
 pub use head::Head;
-pub use misfit::{RequestError, ValueMisfit, ValueMisfitAt};
+pub use level::OF_MESSAGE;
+pub use misfit::RequestError;
 pub use text::INLINE;
 pub use writing::{measure, write_request};

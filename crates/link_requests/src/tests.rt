@@ -1,8 +1,8 @@
 //! Requests that iproute2 sends, byte by byte, and requests that are refused.
 
-use crate::{Head, INLINE, RequestError, ValueMisfit, ValueMisfitAt, measure, write_request};
+use crate::{Head, INLINE, OF_MESSAGE, RequestError, measure, write_request};
 use link_entries::octets::padded;
-use link_entries::{Entry, Misfit, forms};
+use link_entries::{Entry, Misfit, MisfitAt, forms};
 use std::rt::HostRuntime;
 
 /// Returns a value of this form, without content.
@@ -27,6 +27,20 @@ fn number(depth: u8, kind: u16, number: u64) -> Entry {
         number,
         ..value(depth, kind, 0, 0)
     }
+}
+
+/// Returns a value, marked as an attribute of the message.
+fn own(value: Entry) -> Entry {
+    Entry {
+        inner: OF_MESSAGE,
+        depth: 0,
+        ..value
+    }
+}
+
+/// Returns a list of kinds and data.
+fn linkinfo() -> Entry {
+    own(value(0, 18, 0, forms::LIST))
 }
 
 /// Returns two numbers.
@@ -89,8 +103,8 @@ fn has_alias(alias: &[u8], length: usize) -> bool {
 }
 
 /// Returns whether the value at this index is refused so.
-fn is_refused(values: &[Entry], index: usize, misfit: ValueMisfit) -> bool {
-    let wanted = RequestError::Value(ValueMisfitAt { index, misfit });
+fn is_refused(values: &[Entry], index: usize, misfit: Misfit) -> bool {
+    let wanted = RequestError::Value(MisfitAt { index, misfit });
     measure(&Head::create(), values, b"") == Err(wanted)
 }
 
@@ -99,7 +113,7 @@ fn is_refused(values: &[Entry], index: usize, misfit: ValueMisfit) -> bool {
 fn bond(rt: HostRuntime) {
     let values = [
         text(0, 3, 0, b"bond0\0"),
-        value(0, 18, 0, forms::LIST),
+        linkinfo(),
         text(1, 18, 1, b"bond"),
         list(1, 18, 2),
         number(2, 1, 4),
@@ -121,9 +135,9 @@ fn bond(rt: HostRuntime) {
 #[test]
 fn vlan(rt: HostRuntime) {
     let values = [
-        number(0, 5, 1),
+        own(number(0, 5, 1)),
         text(0, 3, 0, b"v6\0"),
-        value(0, 18, 0, forms::LIST),
+        linkinfo(),
         text(1, 18, 1, b"vlan"),
         list(1, 18, 2),
         number(2, 5, 0x88A8),
@@ -173,7 +187,10 @@ fn bridge_port(rt: HostRuntime) {
 // ip link property add dev va altname another
 #[test]
 fn property(rt: HostRuntime) {
-    let values = [value(0, 52, 0, forms::LIST), text(1, 52, 53, b"another\0")];
+    let values = [
+        own(value(0, 52, 0, forms::LIST)),
+        text(1, 52, 53, b"another\0"),
+    ];
     let wanted: [u8; 48] = [
         48, 0, 0, 0, 108, 0, 5, 14, 1, 0, 0, 0, 0, 0, 0, 0, 0, 0, 0, 0, 3, 0, 0, 0, 0, 0, 0, 0, 0,
         0, 0, 0, 16, 0, 52, 128, 12, 0, 53, 0, 97, 110, 111, 116, 104, 101, 114, 0,
@@ -184,7 +201,7 @@ fn property(rt: HostRuntime) {
 // ip link del br0 type bridge
 #[test]
 fn deletion(rt: HostRuntime) {
-    let values = [value(0, 18, 0, forms::LIST), text(1, 18, 1, b"bridge")];
+    let values = [linkinfo(), text(1, 18, 1, b"bridge")];
     let wanted: [u8; 48] = [
         48, 0, 0, 0, 17, 0, 5, 0, 1, 0, 0, 0, 0, 0, 0, 0, 0, 0, 0, 0, 4, 0, 0, 0, 0, 0, 0, 0, 0, 0,
         0, 0, 16, 0, 18, 0, 10, 0, 1, 0, 98, 114, 105, 100, 103, 101, 0, 0,
@@ -203,44 +220,70 @@ fn refused_heads(rt: HostRuntime) {
 
 #[test]
 fn refused_names(rt: HostRuntime) {
-    let name = ValueMisfit::BadName;
+    let name = Misfit::BadName;
     assert!(rt; is_refused(&[text(0, 3, 0, b"")], 0, name));
     assert!(rt; is_refused(&[text(0, 3, 0, b"sixteen_bytes_ab")], 0, name));
     assert!(rt; is_refused(&[text(0, 3, 0, b"..")], 0, name));
     assert!(rt; is_refused(&[text(0, 3, 0, b"a b")], 0, name));
     assert!(rt; is_refused(&[text(0, 3, 0, b"a\0b")], 0, name));
-    let info = value(0, 18, 0, forms::LIST);
+    let info = linkinfo();
     assert!(rt; is_refused(&[info, text(1, 18, 1, b"")], 1, name));
     assert!(rt; is_refused(&[info, text(1, 18, 4, b"bo\0nd")], 1, name));
 }
 
 #[test]
 fn refused_values(rt: HostRuntime) {
-    let element = ValueMisfit::Entry(Misfit::BadElement);
-    let info = value(0, 18, 0, forms::LIST);
+    let info = linkinfo();
     let data = list(1, 18, 2);
     let kind = text(1, 18, 1, b"vlan");
     let id = number(2, 1, 5);
-    assert!(rt; is_refused(&[id], 0, element));
-    assert!(rt; is_refused(&[info, kind, id], 2, element));
-    assert!(rt; is_refused(&[info, data, kind], 1, element));
-    assert!(rt; is_refused(&[info, data, number(3, 1, 5), kind], 2, element));
-    assert!(rt; is_refused(&[info, data, id], 1, ValueMisfit::NoSet));
-    assert!(rt;
-        is_refused(
-            &[info, data, id, text(1, 18, 1, b"zz9")],
-            1,
-            ValueMisfit::NoSet
-        )
-    );
-    assert!(rt; !is_refused(&[info, data, id, kind], 1, ValueMisfit::NoSet));
-    // The depth of a bond's mode was forgotten: as an attribute of the message it would be an address.
-    let form = ValueMisfit::Entry(Misfit::BadForm);
-    assert!(rt; is_refused(&[number(0, 1, 4)], 0, form));
-    assert!(rt; is_refused(&[number(0, 1, 0)], 0, form));
-    let large = ValueMisfit::Entry(Misfit::BadNumber);
-    assert!(rt; is_refused(&[number(0, 4, 0x1_0000_0000)], 0, large));
+    assert!(rt; is_refused(&[info, number(1, 1, 5)], 1, Misfit::BadElement));
+    assert!(rt; is_refused(&[info, data, id], 1, Misfit::NoSet));
+    let unread = text(1, 18, 1, b"zz9");
+    assert!(rt; is_refused(&[info, data, id, unread], 1, Misfit::NoSet));
+    assert!(rt; !is_refused(&[info, data, id, kind], 1, Misfit::NoSet));
+    let large = Misfit::BadNumber;
+    assert!(rt; is_refused(&[own(number(0, 4, 0x1_0000_0000))], 0, large));
     assert!(rt; is_refused(&[info, kind, data, number(2, 1, 0x1_0000)], 3, large));
+}
+
+#[test]
+fn refused_depths(rt: HostRuntime) {
+    let depth = Misfit::BadDepth;
+    let info = linkinfo();
+    let data = list(1, 18, 2);
+    let kind = text(1, 18, 1, b"vlan");
+    let id = number(2, 1, 5);
+    assert!(rt; is_refused(&[id], 0, depth));
+    assert!(rt; is_refused(&[info, kind, id], 2, depth));
+    assert!(rt; is_refused(&[info, data, kind], 1, depth));
+    assert!(rt; is_refused(&[info, data, number(3, 1, 5), kind], 2, depth));
+    // A number of a bond whose depth was forgotten would be the MTU.
+    let updelay = number(0, 4, 200);
+    assert!(rt; is_refused(&[info, text(1, 18, 1, b"bond"), data, updelay], 2, depth));
+    let miimon = number(2, 3, 100);
+    let bond = [info, text(1, 18, 1, b"bond"), data, miimon, updelay];
+    assert!(rt; is_refused(&bond, 4, depth));
+    assert!(rt; is_refused(&[value(0, 18, 0, forms::LIST)], 0, depth));
+    let inside = Entry {
+        depth: 2,
+        ..own(id)
+    };
+    assert!(rt; is_refused(&[info, kind, data, inside], 3, depth));
+    // Bytes have to name their form, and need no mark.
+    assert!(rt; is_refused(&[value(0, 20, 0, 0)], 0, Misfit::BadForm));
+    assert!(rt; !is_refused(&[value(0, 20, 0, forms::TEXT)], 0, Misfit::BadForm));
+}
+
+#[test]
+fn repeated_lists(rt: HostRuntime) {
+    let info = linkinfo();
+    let kind = text(1, 18, 1, b"dummy");
+    assert!(rt; is_refused(&[info, kind, info], 2, Misfit::Repeated));
+    let twice = own(number(0, 4, 1500));
+    assert!(rt; measure(&Head::create(), &[twice, twice, info, kind], b"") == Ok(64));
+    // The first value that cannot be written is before the second list.
+    assert!(rt; is_refused(&[info, text(1, 18, 1, b""), info], 1, Misfit::BadName));
 }
 
 // The longest attributes that are made once, and longer ones

@@ -7,31 +7,35 @@ ghost use Rattle.link_entries.specs.Payload.{slice_told};
 ghost use Rattle.link_requests.specs.Value.{value_bytes};
 ghost use Rattle.link_requests.specs.Values.{last_among, text_among};
 
-use link_entries::payload::passed;
+use link_entries::payload::{has_size, passed};
 use link_entries::{Entry, Misfit};
 use netlink_packet_route::without_nul;
 
-/// The `offset` of a value that refers to no bytes. Those of a text or of bytes are the first `length` of its `octets`; after a
-/// list of another set, the values of this list follow.
+/// The `offset` of a value that refers to no bytes. Those of a text, of bytes or of a struct are the first `length` of its
+/// `octets`; after a list of another set, the values of this list follow.
 pub const INLINE: u64 = u64::MAX;
 
-/// Returns the bytes of a value: its own octets, or those that it refers to.
+/// Returns the bytes of a value: its own octets, or those that it refers to. Their number is `size`, if that is given.
 ///
 /// # Errors
 ///
 /// `BadOctets` if there are not so many; `TooLong` if they do not fit in an attribute.
-pub(crate) fn value_bytes<'a>(entry: &'a Entry, octets: &'a [u8]) -> Result<&'a [u8], Misfit>
-    ensures value { slice_told result ≡ value_bytes entry.now octets.now }
+pub(crate) fn value_bytes<'a>(
+    size: Option<usize>,
+    entry: &'a Entry,
+    octets: &'a [u8],
+) -> Result<&'a [u8], Misfit>
+    ensures value { slice_told result ≡ value_bytes size entry.now octets.now }
     ensures short { IfOk result (λ p. length p.now ≤ max_payload) }
 {
     if entry.offset != INLINE {
-        return passed(None, entry, octets);
+        return passed(size, entry, octets);
     }
-    let size = entry.length as usize;
-    if size > 16 {
+    let length = entry.length as usize;
+    if !has_size(size, entry) || length > 16 {
         return Err(Misfit::BadOctets);
     }
-    Ok(&entry.octets[..size])
+    Ok(&entry.octets[..length])
 }
 
 /// Returns the text of the last element of type `inner` of a list at this depth, without a NUL at its end.
@@ -43,7 +47,7 @@ pub(crate) fn text_among<'a>(
 ) -> Option<&'a [u8]>
     ensures { option_copied result ≡ text_among octets.now depth inner entries.now }
 {
-    match value_bytes(last_among(depth, inner, entries)?, octets) {
+    match value_bytes(None, last_among(depth, inner, entries)?, octets) {
         Ok(text) => Some(without_nul(text)),
         Err(_) => None,
     }

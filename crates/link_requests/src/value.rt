@@ -1,17 +1,15 @@
 //! The payload of one value.
 
-ghost use Rattle.std.specs.Prelude.{◌≡◌, ◌≤◌, IfOk};
+ghost use Rattle.std.specs.Prelude.{◌≡◌, ◌≤◌, None, IfOk};
 ghost use Rattle.link_base.specs.Frame.{max_payload};
 ghost use Rattle.link_entries.specs.Fields.{IsNarrow};
-ghost use Rattle.link_entries.specs.Payload.{payload_of};
-ghost use Rattle.link_requests.specs.Spelling.{of_entry, sized, StoresPayload};
+ghost use Rattle.link_entries.specs.Stored.{sized, StoresPayload};
 ghost use Rattle.link_requests.specs.Value.{kind_for, allowed, value_bytes, held_payload, bytes_payload, value_payload};
 
 use crate::level::{Scope, is_allowed};
-use crate::misfit::ValueMisfit;
 use crate::text::{INLINE, value_bytes};
 use link_entries::fields::Fields;
-use link_entries::payload::{passed, put_bytes, put_payload};
+use link_entries::payload::{has_form, passed, put_bytes, put_payload};
 use link_entries::{Entry, Misfit, forms};
 use netlink_packet_route::Family;
 
@@ -20,7 +18,7 @@ use netlink_packet_route::Family;
 ///
 /// # Errors
 ///
-/// The first that applies of `BadForm`, `BadNumber` or, for a list of another set, `BadElement`; then of `BadName`, `BadOctets`
+/// The first that applies of `BadForm`, `BadNumber` or, for a list of another set, `BadDepth`; then of `BadName`, `BadOctets`
 /// and `NoSet`; then `TooLong`.
 pub(crate) fn put_value_payload(
     scope: Scope,
@@ -30,7 +28,7 @@ pub(crate) fn put_value_payload(
     entry: &Entry,
     octets: &[u8],
     room: &mut [u8],
-) -> Result<usize, ValueMisfit>
+) -> Result<usize, Misfit>
     requires { IsNarrow own }
     ensures size { result ≡ sized (value_payload scope reader own follow entry.now octets.now) }
     ensures stored { StoresPayload (value_payload scope reader own follow entry.now octets.now) room.old room.new }
@@ -40,7 +38,29 @@ pub(crate) fn put_value_payload(
         Fields::Passed { form, size: None } => {
             put_plain(scope, form, reader, follow, entry, octets, room)
         }
-        _ => put_other(own, kind_for(scope, entry), entry, octets, room),
+        Fields::Passed { size, .. } if has_form(own, entry) => put_own(size, entry, octets, room),
+        _ => put_payload(own, kind_for(scope, entry), entry, octets, room),
+    }
+}
+
+/// Stores the bytes of a value.
+///
+/// # Errors
+///
+/// As for `value_bytes`.
+fn put_own(
+    size: Option<usize>,
+    entry: &Entry,
+    octets: &[u8],
+    room: &mut [u8],
+) -> Result<usize, Misfit>
+    ensures size { result ≡ sized (value_bytes size entry.now octets.now) }
+    ensures stored { StoresPayload (value_bytes size entry.now octets.now) room.old room.new }
+    ensures short { IfOk result (λ n. n ≤ max_payload) }
+{
+    match value_bytes(size, entry, octets) {
+        Ok(bytes) => Ok(put_bytes(bytes, room)),
+        Err(misfit) => Err(misfit),
     }
 }
 
@@ -57,41 +77,18 @@ fn put_plain(
     entry: &Entry,
     octets: &[u8],
     room: &mut [u8],
-) -> Result<usize, ValueMisfit>
+) -> Result<usize, Misfit>
     ensures size { result ≡ sized (bytes_payload scope form reader follow entry.now octets.now) }
     ensures stored { StoresPayload (bytes_payload scope form reader follow entry.now octets.now) room.old room.new }
     ensures short { IfOk result (λ n. n ≤ max_payload) }
 {
     if entry.form != form {
-        return Err(ValueMisfit::Entry(Misfit::BadForm));
+        return Err(Misfit::BadForm);
     }
     if form == forms::HELD {
         return put_held(reader, follow, entry, octets, room);
     }
     put_allowed(scope, entry, octets, room)
-}
-
-/// Stores the payload of a value of type `of_kind`, as [`put_payload`] does.
-///
-/// # Errors
-///
-/// As for `put_payload`.
-fn put_other(
-    own: Fields,
-    of_kind: u16,
-    entry: &Entry,
-    octets: &[u8],
-    room: &mut [u8],
-) -> Result<usize, ValueMisfit>
-    requires { IsNarrow own }
-    ensures size { result ≡ sized (of_entry (payload_of own (record entry.now { kind = of_kind }) octets.now)) }
-    ensures stored { StoresPayload (of_entry (payload_of own (record entry.now { kind = of_kind }) octets.now)) room.old room.new }
-    ensures short { IfOk result (λ n. n ≤ max_payload) }
-{
-    match put_payload(own, of_kind, entry, octets, room) {
-        Ok(size) => Ok(size),
-        Err(misfit) => Err(ValueMisfit::Entry(misfit)),
-    }
 }
 
 /// Returns the attribute type of a value.
@@ -109,20 +106,15 @@ fn kind_for(scope: Scope, entry: &Entry) -> u16
 /// # Errors
 ///
 /// `BadName` if Linux rejects them; otherwise as for `value_bytes`.
-fn put_allowed(
-    scope: Scope,
-    entry: &Entry,
-    octets: &[u8],
-    room: &mut [u8],
-) -> Result<usize, ValueMisfit>
-    ensures size { result ≡ sized (allowed scope (kind_for scope entry.now) (value_bytes entry.now octets.now)) }
-    ensures stored { StoresPayload (allowed scope (kind_for scope entry.now) (value_bytes entry.now octets.now)) room.old room.new }
+fn put_allowed(scope: Scope, entry: &Entry, octets: &[u8], room: &mut [u8]) -> Result<usize, Misfit>
+    ensures size { result ≡ sized (allowed scope (kind_for scope entry.now) (value_bytes None entry.now octets.now)) }
+    ensures stored { StoresPayload (allowed scope (kind_for scope entry.now) (value_bytes None entry.now octets.now)) room.old room.new }
     ensures short { IfOk result (λ n. n ≤ max_payload) }
 {
-    match value_bytes(entry, octets) {
+    match value_bytes(None, entry, octets) {
         Ok(bytes) if is_allowed(scope, entry, bytes) => Ok(put_bytes(bytes, room)),
-        Ok(_) => Err(ValueMisfit::BadName),
-        Err(misfit) => Err(ValueMisfit::Entry(misfit)),
+        Ok(_) => Err(Misfit::BadName),
+        Err(misfit) => Err(misfit),
     }
 }
 
@@ -130,7 +122,7 @@ fn put_allowed(
 ///
 /// # Errors
 ///
-/// `BadElement` if it refers to a list, and values follow, or to none, and none follow; `NoSet` if values follow that no set
+/// `BadDepth` if it refers to a list, and values follow, or to none, and none follow; `NoSet` if values follow that no set
 /// reads; otherwise as for `value_bytes`.
 fn put_held(
     reader: Option<Family>,
@@ -138,22 +130,22 @@ fn put_held(
     entry: &Entry,
     octets: &[u8],
     room: &mut [u8],
-) -> Result<usize, ValueMisfit>
+) -> Result<usize, Misfit>
     ensures size { result ≡ sized (held_payload reader follow entry.now octets.now) }
     ensures stored { StoresPayload (held_payload reader follow entry.now octets.now) room.old room.new }
     ensures short { IfOk result (λ n. n ≤ max_payload) }
 {
     if (entry.offset == INLINE) != follow {
-        return Err(ValueMisfit::Entry(Misfit::BadElement));
+        return Err(Misfit::BadDepth);
     }
     if follow {
         return match reader {
             Some(_) => Ok(0),
-            None => Err(ValueMisfit::NoSet),
+            None => Err(Misfit::NoSet),
         };
     }
     match passed(None, entry, octets) {
         Ok(bytes) => Ok(put_bytes(bytes, room)),
-        Err(misfit) => Err(ValueMisfit::Entry(misfit)),
+        Err(misfit) => Err(misfit),
     }
 }

@@ -2,23 +2,22 @@
 
 ghost use Rattle.std.specs.Prelude.{◌≡◌, ◌<◌, ◌+◌, [], Ok, true, length, IfErr};
 ghost use Rattle.link_entries.specs.Fields.{IsNarrow};
-ghost use Rattle.link_requests.specs.declared.misfit.ValueMisfit.TheVariants as misfits;
 ghost use Rattle.link_requests.specs.Opening.{kinds_of};
-ghost use Rattle.link_requests.specs.Spelling.{before, fitted, at_fault, Spells};
+ghost use Rattle.link_entries.specs.Spelled.{before, fitted, at_fault};
+ghost use Rattle.link_entries.specs.Stored.{Spells};
 ghost use Rattle.link_requests.specs.Value.{is_above, inside_of, number_with, attribute_with, value_of};
 ghost use Rattle.link_requests.specs.Values.{values_of, inner_of};
 
 use crate::level::{
-    Level, Scope, context_in, is_above, reader_for, row_for, scope_below, type_for,
+    Level, Scope, context_in, is_above, is_placed, reader_for, row_for, scope_below, type_for,
 };
-use crate::misfit::{ValueMisfit, ValueMisfitAt};
 use crate::value::put_value_payload;
 use link_base::MAX_PAYLOAD;
 use link_base::rows::form::ArrayOf;
 use link_entries::fields::Fields;
 use link_entries::spelling::spell_number;
 use link_entries::storing::{store_header, store_padding};
-use link_entries::{Entry, Misfit};
+use link_entries::{Entry, Misfit, MisfitAt};
 
 /// Stores what the values of a list spell at the start of `room`, up to one that is less deep, if there is room. Returns its
 /// length; saturates at `usize::MAX`.
@@ -32,7 +31,7 @@ pub(crate) fn put_values<'a>(
     entries: &'a [Entry],
     octets: &'a [u8],
     room: &mut [u8],
-) -> Result<usize, ValueMisfitAt>
+) -> Result<usize, MisfitAt>
     ensures spells { Spells (values_of octets.now level.now.scope level.now.depth (kinds_of level.now.context) 0 entries.now)
         room.old room.new result }
     ensures index { IfErr result (λ e. e.index < length entries.now) }
@@ -49,7 +48,7 @@ pub(crate) fn put_values<'a>(
             match put_value(level, index, entry, others, octets, &mut room[from..]) {
                 Ok(size) => len = len.saturating_add(size),
                 Err(first) => {
-                    return Err(ValueMisfitAt {
+                    return Err(MisfitAt {
                         index: index + first.index,
                         misfit: first.misfit,
                     });
@@ -74,7 +73,7 @@ fn put_value<'a>(
     others: &'a [Entry],
     octets: &'a [u8],
     room: &mut [u8],
-) -> Result<usize, ValueMisfitAt>
+) -> Result<usize, MisfitAt>
     ensures spells { Spells (value_of octets.now level.now.scope level.now.depth (kinds_of level.now.context) index entry.now
         others.now (inner_of octets.now level.now.depth (kinds_of level.now.context) others.now)) room.old room.new result }
     ensures index { IfErr result (λ e. e.index < 1 + length others.now) }
@@ -82,6 +81,9 @@ fn put_value<'a>(
     let Some(own) = row_for(level, entry) else {
         return Err(own_misfit(Misfit::BadElement));
     };
+    if !is_placed(level.scope, own, entry) {
+        return Err(own_misfit(Misfit::BadDepth));
+    }
     match level.scope {
         Scope::Numbers(of, _) => put_number(level.depth, of, entry, others, room),
         _ => put_attribute(level, index, own, entry, others, octets, room),
@@ -92,21 +94,21 @@ fn put_value<'a>(
 ///
 /// # Errors
 ///
-/// As for `put_value`; `BadElement` if deeper values follow.
+/// As for `put_value`; `BadDepth` if deeper values follow.
 fn put_number(
     depth: u8,
     of: ArrayOf,
     entry: &Entry,
     others: &[Entry],
     room: &mut [u8],
-) -> Result<usize, ValueMisfitAt>
+) -> Result<usize, MisfitAt>
     ensures spells { Spells (number_with of depth entry.now others.now) room.old room.new result }
     ensures index { IfErr result (λ e. e.index < 1 + length others.now) }
 {
     match spell_number(of, entry, room) {
-        Ok(_) if is_above(depth, others) => Err(ValueMisfitAt {
+        Ok(_) if is_above(depth, others) => Err(MisfitAt {
             index: 1,
-            misfit: ValueMisfit::Entry(Misfit::BadElement),
+            misfit: Misfit::BadDepth,
         }),
         Ok(size) => Ok(size),
         Err(misfit) => Err(own_misfit(misfit)),
@@ -127,7 +129,7 @@ fn put_attribute<'a>(
     others: &'a [Entry],
     octets: &'a [u8],
     room: &mut [u8],
-) -> Result<usize, ValueMisfitAt>
+) -> Result<usize, MisfitAt>
     requires { IsNarrow own }
     ensures spells { Spells (attribute_with octets.now level.now.scope level.now.depth (kinds_of level.now.context) index own
         entry.now others.now (inner_of octets.now level.now.depth (kinds_of level.now.context) others.now))
@@ -139,7 +141,7 @@ fn put_attribute<'a>(
     let follow = is_above(level.depth, others);
     let size = match put_value_payload(level.scope, reader, own, follow, entry, octets, room) {
         Ok(size) => size,
-        Err(misfit) => return Err(ValueMisfitAt { index: 0, misfit }),
+        Err(misfit) => return Err(MisfitAt { index: 0, misfit }),
     };
     if !follow {
         return Ok(store_header(room, nla_type, size));
@@ -161,7 +163,7 @@ fn put_below<'a>(
     others: &'a [Entry],
     octets: &'a [u8],
     room: &mut [u8],
-) -> Result<usize, ValueMisfitAt>
+) -> Result<usize, MisfitAt>
     requires { is_above level.now.depth others.now ≡ true }
     ensures spells { Spells (fitted nla_type (before (Ok []) (inside_of (level.now.depth + 1) scope
         (inner_of octets.now level.now.depth (kinds_of level.now.context) others.now) others.now))) room.old room.new result }
@@ -171,7 +173,7 @@ fn put_below<'a>(
     let size = match put_inside(level, scope, others, octets, &mut room[from..]) {
         Ok(size) => size,
         Err(first) => {
-            return Err(ValueMisfitAt {
+            return Err(MisfitAt {
                 index: first.index + 1,
                 misfit: first.misfit,
             });
@@ -196,7 +198,7 @@ fn put_inside<'a>(
     entries: &'a [Entry],
     octets: &'a [u8],
     room: &mut [u8],
-) -> Result<usize, ValueMisfitAt>
+) -> Result<usize, MisfitAt>
     requires { is_above level.now.depth entries.now ≡ true }
     ensures spells { Spells (inside_of (level.now.depth + 1) scope
         (inner_of octets.now level.now.depth (kinds_of level.now.context) entries.now) entries.now) room.old room.new result }
@@ -213,16 +215,16 @@ fn put_inside<'a>(
             };
             put_values(&inner, entries, octets, room)
         }
-        _ => Err(own_misfit(Misfit::BadElement)),
+        _ => Err(own_misfit(Misfit::BadDepth)),
     }
 }
 
 /// Returns the error of the first value.
-fn own_misfit(misfit: Misfit) -> ValueMisfitAt
-    ensures { result ≡ at_fault (0, misfits.Entry misfit) }
+fn own_misfit(misfit: Misfit) -> MisfitAt
+    ensures { result ≡ at_fault (0, misfit) }
 {
-    ValueMisfitAt {
+    MisfitAt {
         index: 0,
-        misfit: ValueMisfit::Entry(misfit),
+        misfit: misfit,
     }
 }

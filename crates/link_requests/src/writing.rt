@@ -3,16 +3,16 @@
 ghost use Rattle.std.specs.Prelude.{◌≡◌, ◌≤◌, ◌++◌, Ok, bit_or, length, take, IfOk};
 ghost use Rattle.std.specs.Int.{w32, cast_unsigned};
 ghost use Rattle.link_base.specs.Number.{bytes_of};
-ghost use Rattle.link_entries.specs.Stored.{StoresBytes};
-ghost use Rattle.link_requests.specs.Spelling.{Spells};
+ghost use Rattle.link_entries.specs.Stored.{StoresBytes, Spells};
 ghost use Rattle.link_requests.specs.Request.{link_head, attributes_of, request_of, sized, Stores};
 
 use crate::head::{Head, head_error};
 use crate::level::{Level, Scope, begins_at};
-use crate::misfit::{RequestError, ValueMisfit, ValueMisfitAt};
+use crate::lists::unrepeated;
+use crate::misfit::RequestError;
 use crate::values::put_values;
 use link_entries::storing::store;
-use link_entries::{Entry, Misfit};
+use link_entries::{Entry, Misfit, MisfitAt};
 use netlink_packet_route::{Context, Family};
 
 const NLM_F_REQUEST: u16 = 1;
@@ -64,8 +64,11 @@ fn measure_into(
 ///
 /// Values are those of [`link_entries::write`], with these differences:
 ///
-/// - Bytes, texts and lists of other sets name their form: 0 does not stand for it. If the `offset` of bytes or of a text is
-///   [`INLINE`](crate::INLINE), they are the first `length` of its `octets`, at most 16.
+/// - The `inner` of an attribute of the message is [`OF_MESSAGE`](crate::OF_MESSAGE), unless it has to name its form. So a value
+///   of a deeper list whose depth was forgotten is an error. In lists of other sets no attribute has this mark.
+/// - There is at most one `IFLA_LINKINFO`, one `IFLA_AF_SPEC` and one `IFLA_PROTINFO`, of which Linux takes one.
+/// - Bytes, texts and lists of other sets name their form: 0 does not stand for it. If the `offset` of bytes, of a text or of a
+///   struct is [`INLINE`](crate::INLINE), they are the first `length` of its `octets`, at most 16.
 /// - If the `offset` of a list of another set is `INLINE`, the values of this list follow, one deeper. The set that reads them
 ///   is the one that [`opened`](netlink_packet_route::opened) returns. The kind of an `IFLA_LINKINFO` is the last in it, before
 ///   or after the data.
@@ -75,8 +78,9 @@ fn measure_into(
 /// # Errors
 ///
 /// The first that applies of `BadType`, `NoIndex`, `Value` with the first value that cannot be written, and `TooLarge`. A value
-/// has the first that applies of `BadElement`, `BadForm`, `BadNumber`; of `BadName`, `BadOctets` and `NoSet`; and, after the
-/// values that follow it in deeper lists, of `TooLong`. `out` is unchanged unless the result is `Ok(Some(n))`; then `out[n..]`
+/// has the first that applies of `Repeated`, `BadElement` and `BadDepth`; of `BadForm` and `BadNumber`; of `BadDepth` for the
+/// values that follow it, `BadName`, `BadOctets` and `NoSet`; and, after the values that follow it in deeper lists, of
+/// `TooLong`. `out` is unchanged unless the result is `Ok(Some(n))`; then `out[n..]`
 /// is.
 pub fn write_request(
     head: &Head,
@@ -115,7 +119,7 @@ fn place_attributes(
     short: &[u8],
     size: usize,
     room: &mut [u8],
-) -> Result<usize, ValueMisfitAt>
+) -> Result<usize, MisfitAt>
     requires { size ≤ length short.now → attributes_of head.now octets.now values.now ≡ Ok (take size short.now) }
     ensures { Spells (attributes_of head.now octets.now values.now) room.old room.new result }
 {
@@ -136,13 +140,13 @@ fn put_attributes(
     values: &[Entry],
     octets: &[u8],
     out: &mut [u8],
-) -> Result<usize, ValueMisfitAt>
+) -> Result<usize, MisfitAt>
     ensures { Spells (attributes_of head.now octets.now values.now) out.old out.new result }
 {
     if !begins_at(0, values) {
-        return Err(ValueMisfitAt {
+        return Err(MisfitAt {
             index: 0,
-            misfit: ValueMisfit::Entry(Misfit::BadElement),
+            misfit: Misfit::BadDepth,
         });
     }
     let level = Level {
@@ -150,7 +154,15 @@ fn put_attributes(
         depth: 0,
         context: Context::of_message(head.address_family),
     };
-    put_values(&level, values, octets, out)
+    let index = unrepeated(values);
+    match put_values(&level, &values[..index], octets, out) {
+        Ok(_) if index < values.len() => Err(MisfitAt {
+            index,
+            misfit: Misfit::Repeated,
+        }),
+        Ok(size) => Ok(size),
+        Err(first) => Err(first),
+    }
 }
 
 /// Returns the bytes of a `struct nlmsghdr` of a message of this length.

@@ -378,7 +378,7 @@ static void asking(void) {
     type.number = 4;
     memset(name, 0xFF, sizeof name);
     check_text(nlroute_text(NLROUTE_BOND, &type, NLROUTE_NO_OCTETS, name, sizeof name), name, sizeof name, "802.3ad (4)");
-    for (ptrdiff_t code = -12; code < 2; code++) {
+    for (ptrdiff_t code = NLROUTE_REPEATED - 1; code < 2; code++) {
         memset(name, 0xFF, sizeof name);
         check_text(nlroute_code_text(code, name, sizeof name), name, sizeof name, nlroute_refusal_text(code));
     }
@@ -561,6 +561,14 @@ static void messages(void) {
     check(is_first && link.link_flags == 1 && link.change == 1, "its struct ifinfomsg");
     check(!second && done.list == 80 && done.length == 2 && done.next == 82 && done.type == 3, "an NLMSG_DONE");
     check(done.is_link == 0 && done.index == 0 && done.link_flags == 0, "it is not about a link");
+    /* RTM_NEWLINKPROP, RTM_DELLINKPROP and RTM_GETLINKPROP have the same header, RTM_NEWNEXTHOP before them another */
+    uint8_t property[64];
+    memcpy(property, dump, sizeof property);
+    for (property[4] = 104; property[4] < 112; property[4]++) {
+        bool is_property = property[4] >= 108 && property[4] <= 110;
+        check(!nlroute_message(property, 64, 0, &link) && link.type == property[4] && link.is_link == is_property, "a type");
+        check(link.index == (is_property ? 9 : 0) && link.list == (is_property ? 32 : 16), "its header");
+    }
     check(nlroute_message(dump, sizeof dump, 82, &none) == NLROUTE_ABSENT, "-6 at the end");
     check(nlroute_message(dump, sizeof dump, SIZE_MAX, &none) == NLROUTE_ABSENT, "-6 after the end");
     check(nlroute_message(dump, 63, 0, &none) == NLROUTE_HAS_FAULT, "-1 of a message that is cut off");

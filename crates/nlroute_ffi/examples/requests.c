@@ -92,7 +92,7 @@ static void rename_link(struct written *it, int32_t index, const char *name, uin
 /* Adds an alternative name. */
 static void add_name(struct written *it, int32_t index, const char *name) {
     const struct nlroute_value values[] = {
-        nlroute_list(NLROUTE_IFLA_PROP_LIST),
+        nlroute_of_message(nlroute_list(NLROUTE_IFLA_PROP_LIST)),
         nlroute_element(NLROUTE_IFLA_PROP_LIST, nlroute_name_of(NLROUTE_IFLA_ALT_IFNAME, name)),
     };
     write_values(it, nlroute_property(index), NLROUTE_VALUES(values));
@@ -195,7 +195,7 @@ static void refused_requests(void) {
     const struct nlroute_value number = nlroute_number(NLROUTE_IFLA_BOND_MODE, 4);
     const struct nlroute_value bond[] = {NLROUTE_DATA("bond"), number};
     write_values(&it, nlroute_create(), NLROUTE_VALUES(bond));
-    check_refused(&it, NLROUTE_BAD_ELEMENT, 2, "data without values");
+    check_refused(&it, NLROUTE_BAD_DEPTH, 2, "data without values");
     write_values(&it, nlroute_create(), &number, 1);
     check_refused(&it, NLROUTE_BAD_FORM, 0, "a number where bytes are");
     const struct nlroute_value other[] = {NLROUTE_DATA("zz9"), nlroute_below(2, number)};
@@ -203,7 +203,7 @@ static void refused_requests(void) {
     check_refused(&it, NLROUTE_NO_SET, 2, "data of a kind without a set");
     const struct nlroute_value deep[] = {NLROUTE_DATA("bond"), nlroute_below(3, number)};
     write_values(&it, nlroute_create(), NLROUTE_VALUES(deep));
-    check_refused(&it, NLROUTE_BAD_ELEMENT, 3, "a depth too many");
+    check_refused(&it, NLROUTE_BAD_DEPTH, 3, "a depth too many");
     const struct nlroute_value wide[] = {NLROUTE_DATA("bond"), nlroute_below(2, nlroute_number(NLROUTE_IFLA_BOND_MODE, 256))};
     write_values(&it, nlroute_create(), NLROUTE_VALUES(wide));
     check_refused(&it, NLROUTE_BAD_NUMBER, 3, "a number too large");

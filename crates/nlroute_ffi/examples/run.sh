@@ -90,6 +90,10 @@ compile tasks
 counted $watch "$room/tasks"
 compile requests
 counted $watch "$room/requests"
+compile marks
+counted $watch "$room/marks"
+compile manager
+prints manager "the requests of a network manager are printed" <../../bindings/manager.txt
 compile bridge
 prints bridge "a request is printed" <<'END'
 08000300 62723000 30001200 0a000100 62726964 67650000 20000200 08000100 bc020000 08000200 64000000 0a001400 0180c200 00040000

@@ -125,7 +125,9 @@ enum nlroute_refusal {
                                  not that of a request about links */
     NLROUTE_NO_INDEX = -12,   /* the request changes or deletes a link, and its index is 0 or negative */
     NLROUTE_BAD_NAME = -13,   /* a name that Linux rejects, or a kind that it rejects or cuts */
-    NLROUTE_NO_SET = -14      /* values follow a list that no attribute set reads */
+    NLROUTE_NO_SET = -14,     /* values follow a list that no attribute set reads */
+    NLROUTE_BAD_DEPTH = -15,  /* a value whose depth is not that of its list, or that is not marked as one of the message */
+    NLROUTE_REPEATED = -16    /* a second list of a type of which a message has one */
 };
 
 /* Returns the meaning of an error code in words. */
@@ -146,6 +148,8 @@ static inline const char *nlroute_refusal_text(ptrdiff_t code)
     case NLROUTE_NO_INDEX: return "the index of the link is 0 or negative";
     case NLROUTE_BAD_NAME: return "Linux does not take the name or kind";
     case NLROUTE_NO_SET: return "no attribute set reads the list of these values";
+    case NLROUTE_BAD_DEPTH: return "the value has a wrong depth, or is not marked as one of the message";
+    case NLROUTE_REPEATED: return "the message has a second list of this type";
     default: return code < 0 ? "unknown error" : "no error";
     }
 }
@@ -693,7 +697,8 @@ struct nlroute_message {
     uint32_t change;    /* ifi_change */
     uint16_t link_type; /* ifi_type */
     uint8_t address_family; /* ifi_family */
-    uint8_t is_link;    /* 1 if it has a struct ifinfomsg: RTM_NEWLINK, RTM_DELLINK, RTM_GETLINK, RTM_SETLINK; else 0 */
+    uint8_t is_link;    /* 1 if it has a struct ifinfomsg: RTM_NEWLINK, RTM_DELLINK, RTM_GETLINK, RTM_SETLINK,
+                           RTM_NEWLINKPROP, RTM_DELLINKPROP, RTM_GETLINKPROP; else 0 */
 }; /* 56 bytes, without padding */
 
 /*
@@ -703,7 +708,7 @@ struct nlroute_message {
  *
  * On error *message is unchanged. Returns
  * - NLROUTE_ABSENT if and only if `at` is len or greater;
- * - NLROUTE_HAS_FAULT if and only if the message is malformed: its nlmsg_len, or it is one of the four types above, but
+ * - NLROUTE_HAS_FAULT if and only if the message is malformed: its nlmsg_len, or it is one of the seven types above, but
  *   shorter than the two headers. nlroute_message_fault() says why. After the second, go on at `at` plus nlmsg_len,
  *   rounded up to a multiple of four.
  */

@@ -112,9 +112,27 @@ static inline struct nlroute_head nlroute_up(struct nlroute_head head, bool is_u
 
 /*
  * Values. nlroute_request() takes those of nlroute_write(), of the set NLROUTE_LINK, with some differences. Numbers and
- * lists are made by nlroute_number(), nlroute_list() and the like. Values with bytes have to say their form, so that a
- * number which belongs to a deeper list is not taken for one: the functions below set it.
+ * lists are made by nlroute_number(), nlroute_list() and the like. Bytes have to say their form: the functions below set
+ * it.
+ *
+ * Depth decides what a value is: 0 is the message, 1 IFLA_LINKINFO, 2 IFLA_INFO_DATA. The same number is another attribute
+ * in each: type 4 is IFLA_MTU in the message, and IFLA_BOND_UPDELAY in the data of a bond. So values of the message are
+ * marked, except bytes, texts, lists of other sets, and unknown types. A value of another set whose nlroute_below() was
+ * forgotten is an error, such as NLROUTE_BAD_DEPTH, or NLROUTE_BAD_FORM if the message has bytes of this type. It is not
+ * noticed of a value whose type is unknown, or that is made as bytes and is something else in its set. nlroute_mtu() and the
+ * like set the mark, nlroute_of_message() sets it for any other value, also for one that was read.
  */
+
+/* The mark: the field `inner` of a value that is an attribute of the message. */
+#define NLROUTE_OF_MESSAGE 0xFFFF
+
+/* Returns the value, an attribute of the message, such as nlroute_of_message(nlroute_number(NLROUTE_IFLA_TXQLEN, 1000)). */
+static inline struct nlroute_value nlroute_of_message(struct nlroute_value value)
+{
+    value.inner = NLROUTE_OF_MESSAGE;
+    value.depth = 0;
+    return value;
+}
 
 /* The offset of a value whose bytes are the first `length` of its octets, or after which the values of its list follow. */
 #define NLROUTE_INLINE UINT64_MAX
@@ -134,7 +152,10 @@ static inline struct nlroute_value nlroute_passed(uint16_t kind, uint8_t form, u
     return value;
 }
 
-/* Bytes of the value itself, such as an IFLA_ADDRESS: at most 16. nlroute_request() returns an error if there are more. */
+/*
+ * Bytes of the value itself, such as an IFLA_ADDRESS, or a struct that has no form of its own, such as an
+ * IFLA_VXLAN_PORT_RANGE: at most 16. nlroute_request() returns an error if there are more.
+ */
 static inline struct nlroute_value nlroute_octets(uint16_t kind, const void *bytes, uint32_t length)
 {
     struct nlroute_value value = nlroute_address(kind, bytes, length);
@@ -159,11 +180,17 @@ static inline struct nlroute_value nlroute_string(uint16_t kind, const char *tex
     return value;
 }
 
-/* A name of a link, with its NUL: an IFLA_ALT_IFNAME of at most 15 bytes, or as below. */
+/*
+ * A name of a link, with its NUL: an IFLA_ALT_IFNAME, or as below. nlroute_request() returns an error if it has more than
+ * 15 bytes. Pass a longer IFLA_ALT_IFNAME, of at most 127, among the octets, with its NUL:
+ * nlroute_passed(NLROUTE_IFLA_ALT_IFNAME, NLROUTE_FORM_TEXT, offset, length).
+ */
 static inline struct nlroute_value nlroute_name_of(uint16_t kind, const char *name)
 {
     uint32_t length = nlroute_short_length(name);
-    struct nlroute_value value = nlroute_octets(kind, name, length < 16 ? length + 1 : 16);
+    /* Of a long IFLA_IFNAME 16 bytes, which are NLROUTE_BAD_NAME; of other long names 17, which are NLROUTE_BAD_OCTETS. */
+    uint32_t long_length = kind == NLROUTE_IFLA_IFNAME ? 16 : 17;
+    struct nlroute_value value = nlroute_octets(kind, name, length < 16 ? length + 1 : long_length);
     value.form = NLROUTE_FORM_TEXT;
     return value;
 }
@@ -171,25 +198,25 @@ static inline struct nlroute_value nlroute_name_of(uint16_t kind, const char *na
 /* IFLA_IFNAME: the name of a new link, the new name of a link, or that of the link that is asked for. */
 static inline struct nlroute_value nlroute_name(const char *name)
 {
-    return nlroute_name_of(NLROUTE_IFLA_IFNAME, name);
+    return nlroute_of_message(nlroute_name_of(NLROUTE_IFLA_IFNAME, name));
 }
 
 /* IFLA_MTU, in bytes. */
 static inline struct nlroute_value nlroute_mtu(uint32_t mtu)
 {
-    return nlroute_number(NLROUTE_IFLA_MTU, mtu);
+    return nlroute_of_message(nlroute_number(NLROUTE_IFLA_MTU, mtu));
 }
 
 /* IFLA_MASTER: the index of the bond or bridge that the link becomes a port of, or 0. */
 static inline struct nlroute_value nlroute_master(uint32_t index)
 {
-    return nlroute_number(NLROUTE_IFLA_MASTER, index);
+    return nlroute_of_message(nlroute_number(NLROUTE_IFLA_MASTER, index));
 }
 
 /* IFLA_LINK: the index of the link that a VLAN device and the like is on. */
 static inline struct nlroute_value nlroute_lower(uint32_t index)
 {
-    return nlroute_number(NLROUTE_IFLA_LINK, index);
+    return nlroute_of_message(nlroute_number(NLROUTE_IFLA_LINK, index));
 }
 
 /* A list of another set, whose values follow, one deeper. */
@@ -198,14 +225,20 @@ static inline struct nlroute_value nlroute_held_list(uint16_t kind)
     return nlroute_passed(kind, NLROUTE_FORM_HELD, NLROUTE_INLINE, 0);
 }
 
-/* IFLA_AF_SPEC and IFLA_PROTINFO: for heads of AF_BRIDGE. The values follow, one deeper. */
+/* IFLA_AF_SPEC, and IFLA_PROTINFO for heads of AF_BRIDGE. The values follow, one deeper. */
 static inline struct nlroute_value nlroute_af_spec(void)
 {
-    return nlroute_held_list(NLROUTE_IFLA_AF_SPEC);
+    return nlroute_of_message(nlroute_held_list(NLROUTE_IFLA_AF_SPEC));
 }
 static inline struct nlroute_value nlroute_protinfo(void)
 {
-    return nlroute_held_list(12);
+    return nlroute_of_message(nlroute_held_list(12));
+}
+
+/* IFLA_LINKINFO: the kinds and data follow, one deeper. A message has one. */
+static inline struct nlroute_value nlroute_linkinfo(void)
+{
+    return nlroute_of_message(nlroute_list(NLROUTE_IFLA_LINKINFO));
 }
 
 /* IFLA_INFO_KIND, IFLA_INFO_DATA, IFLA_INFO_SLAVE_KIND and IFLA_INFO_SLAVE_DATA, in the IFLA_LINKINFO before them. */
@@ -227,13 +260,19 @@ static inline struct nlroute_value nlroute_port_data(void)
 }
 
 /* Two values: an IFLA_LINKINFO with a kind, such as "dummy". */
-#define NLROUTE_KIND(kind) nlroute_list(NLROUTE_IFLA_LINKINFO), nlroute_info_kind(kind)
+#define NLROUTE_KIND(kind) nlroute_linkinfo(), nlroute_info_kind(kind)
 
 /* Three values: an IFLA_LINKINFO with a kind, such as "bond", and its data. At least one value of it follows, two deeper. */
 #define NLROUTE_DATA(kind) NLROUTE_KIND(kind), nlroute_info_data()
 
 /* Likewise for a port of a bond or bridge. */
-#define NLROUTE_PORT_DATA(kind) nlroute_list(NLROUTE_IFLA_LINKINFO), nlroute_port_kind(kind), nlroute_port_data()
+#define NLROUTE_PORT_DATA(kind) nlroute_linkinfo(), NLROUTE_AND_PORT_DATA(kind)
+
+/*
+ * Two values, which follow NLROUTE_KIND, or NLROUTE_DATA and its values, for a link that is also a port: the kind and data of
+ * the port, in the same IFLA_LINKINFO. At least one value of the data follows, two deeper.
+ */
+#define NLROUTE_AND_PORT_DATA(kind) nlroute_port_kind(kind), nlroute_port_data()
 
 /* The two arguments values and count, of an array; of no values. */
 #define NLROUTE_VALUES(array) (array), sizeof(array) / sizeof *(array)
@@ -252,25 +291,35 @@ static inline const struct nlroute_value *nlroute_no_values(void)
  * of four; the rest of out, and *at, are unchanged. Does not allocate.
  *
  * The values are those of nlroute_write(), with these differences:
- * - Bytes, texts and lists of other sets have to have their form: NLROUTE_FORM_BYTES, NLROUTE_FORM_TEXT, NLROUTE_FORM_HELD.
- *   If the offset of bytes or of a text is NLROUTE_INLINE, they are the first `length` octets of the value itself.
- * - If the offset of a list of another set is NLROUTE_INLINE, the values of this list follow, one deeper. The kinds in an
- *   IFLA_LINKINFO, wherever they are in it, and the address family of the head tell which set reads them.
+ * - The `inner` of an attribute of the message is NLROUTE_OF_MESSAGE. It may be another one if the attribute has to have its
+ *   form (below), or its type is not known. No attribute of another set has this `inner`.
+ * - There is at most one attribute of the message of each of the types IFLA_LINKINFO, IFLA_AF_SPEC and IFLA_PROTINFO (12).
+ *   Linux would take one, and ignore the others.
+ * - Bytes of any length, texts and lists of other sets have to have their form: NLROUTE_FORM_BYTES, NLROUTE_FORM_TEXT,
+ *   NLROUTE_FORM_HELD. Structs may have NLROUTE_FORM_OF_KIND. If the offset of bytes, of a text or of a struct is
+ *   NLROUTE_INLINE, they are the first `length` octets of the value itself.
+ * - If the offset of a list of another set is NLROUTE_INLINE, the values of this list follow, one deeper; its length does not
+ *   matter. The kinds in an IFLA_LINKINFO, before or after the data, the last of each, and the address family of the head tell
+ *   which set reads them.
  * - With AF_BRIDGE, an IFLA_PROTINFO of NLROUTE_FORM_HELD is such a list. It is written with NLA_F_NESTED.
  * - Names and kinds are checked. A NUL at their end is not part of them.
  *
  * Returns NLROUTE_BAD_TYPE if the head has another type than the six above; then NLROUTE_NO_INDEX if its index is 0 or
  * negative, unless it is RTM_GETLINK, or RTM_NEWLINK with NLM_F_CREATE. *at is then count. Otherwise returns, for the first
  * value that cannot be written, the first of these that applies, and stores its index in *at:
- * - NLROUTE_BAD_ELEMENT if its depth is not that of a list which it follows, or it is no value of this list;
+ * - NLROUTE_REPEATED if it is the second attribute of the message of such a type;
+ * - NLROUTE_BAD_DEPTH if its depth is not 0, nor that of a list which it follows;
+ * - NLROUTE_BAD_ELEMENT if it is not an element of the list which it follows;
+ * - NLROUTE_BAD_DEPTH if it is an attribute of the message and is not marked, but has to be, or if it is one of another set
+ *   and is marked;
  * - NLROUTE_BAD_FORM as nlroute_write(), or if it has another form than bytes, texts and lists of other sets have to have;
  * - NLROUTE_BAD_NUMBER as nlroute_write();
- * - NLROUTE_BAD_ELEMENT if it is a list of another set, and has NLROUTE_INLINE but no values follow, or the reverse;
+ * - NLROUTE_BAD_DEPTH if it is a list of another set, and has NLROUTE_INLINE but no values follow, or the reverse;
  * - NLROUTE_NO_SET if values of a list follow that no set reads: its kind has no data, or there is no kind;
- * - NLROUTE_BAD_OCTETS as nlroute_write(), or if length is more than 16 with NLROUTE_INLINE;
+ * - NLROUTE_BAD_OCTETS as nlroute_write(), or if length is more than 16 with NLROUTE_INLINE, except of a list;
+ * - NLROUTE_TOO_LONG if its payload would have more than 65531 bytes; of a list, if all values in it can be written;
  * - NLROUTE_BAD_NAME for an IFLA_IFNAME that is empty, longer than 15 bytes, "." or "..", or has a NUL, '/', ':' or a byte
- *   09 to 0D, 20 or A0; for an IFLA_INFO_KIND or IFLA_INFO_SLAVE_KIND that is empty, longer than 55 bytes, or has a NUL;
- * - NLROUTE_TOO_LONG if its payload would have more than 65531 bytes; of a list, if all values in it can be written.
+ *   09 to 0D, 20 or A0; for an IFLA_INFO_KIND or IFLA_INFO_SLAVE_KIND that is empty, longer than 55 bytes, or has a NUL.
  *
  * Then returns NLROUTE_TOO_LONG if the request would have more than 2^32 - 1 bytes; *at is count. Returns NLROUTE_NO_ROOM if
  * and only if the request can be written but has more than room bytes; *at is its length. On error out is unchanged.

@@ -9,7 +9,7 @@ use Rattle.link_entries.specs.declared.entry.Entry.{Entry}
 use Rattle.link_entries.specs.declared.row.Row.{Row}
 use Rattle.link_entries.specs.Rows.{row_of_type}
 use Rattle.nlroute_ffi.specs.declared.refusal.Refusal.{Refusal}
-use Rattle.nlroute_ffi.specs.declared.refusal.Refusal.TheVariants.{Fault, TooLong, Memory, NoRoom, NoFamily, Absent, BadForm, BadNumber, BadElement, BadOctets, BadType, NoIndex, BadName, NoSet}
+use Rattle.nlroute_ffi.specs.declared.refusal.Refusal.TheVariants.{Fault, TooLong, Memory, NoRoom, NoFamily, Absent, BadForm, BadNumber, BadElement, BadOctets, BadType, NoIndex, BadName, NoSet, BadDepth, Repeated}
 use Rattle.nlroute_ffi.specs.Numbers.{code_of}
 use Rattle.nlroute_ffi.specs.Buffers.{Stores}
 use Rattle.nlroute_ffi.specs.Names.{label_for}
@@ -91,6 +91,8 @@ refusal_words BadType = codes "the message is not a request about links"
 refusal_words NoIndex = codes "the index of the link is 0 or negative"
 refusal_words BadName = codes "Linux does not take the name or kind"
 refusal_words NoSet = codes "no attribute set reads the list of these values"
+refusal_words BadDepth = codes "the value has a wrong depth, or is not marked as one of the message"
+refusal_words Repeated = codes "the message has a second list of this type"
 
 -- the text of a code: of an error, another one, or of a result that is no error
 abbrev pub IsCodeText : ℤ → List ℕ → Type 0

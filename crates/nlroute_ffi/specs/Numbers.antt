@@ -5,9 +5,9 @@ use Rattle.netlink_packet_route.specs.declared.link.Cause.TheVariants.{ShortFram
 use Rattle.netlink_packet_route.specs.declared.link.DecodeFault.{DecodeFault}
 use Rattle.netlink_packet_route.specs.declared.link.DecodeFault.TheVariants.{Frame, Value, NestedFrame, NestedValue, Payload, Text}
 use Rattle.nlroute_ffi.specs.declared.refusal.Refusal.{Refusal}
-use Rattle.nlroute_ffi.specs.declared.refusal.Refusal.TheVariants.{Fault, TooLong, Memory, NoRoom, NoFamily, Absent, BadForm, BadNumber, BadElement, BadOctets, BadType, NoIndex, BadName, NoSet}
+use Rattle.nlroute_ffi.specs.declared.refusal.Refusal.TheVariants.{Fault, TooLong, Memory, NoRoom, NoFamily, Absent, BadForm, BadNumber, BadElement, BadOctets, BadType, NoIndex, BadName, NoSet, BadDepth, Repeated}
 
--- the result for the C caller: a length or a count, or an error code from -1 to -14 (`negsuc n` is -1 - n)
+-- the result for the C caller: a length or a count, or an error code from -1 to -16 (`negsuc n` is -1 - n)
 abbrev pub code_of : Result ℕ Refusal → ℤ
 code_of (Ok n) = pos n
 code_of (Err Fault) = negsuc 0
@@ -24,6 +24,8 @@ code_of (Err BadType) = negsuc 10
 code_of (Err NoIndex) = negsuc 11
 code_of (Err BadName) = negsuc 12
 code_of (Err NoSet) = negsuc 13
+code_of (Err BadDepth) = negsuc 14
+code_of (Err Repeated) = negsuc 15
 
 -- the causes, as `enum nlroute_cause` of the header numbers them
 abbrev pub short_frame : ℕ

@@ -3,26 +3,18 @@ use Rattle.std.specs.Prelude.{◌≡◌, ℕ, ◌<◌, List, length, Result, Ok,
 use Rattle.netlink_packet_route.specs.Rewrite.{StandsInFront}
 use Rattle.link_entries.specs.declared.entry.Entry.{Entry}
 use Rattle.link_requests.specs.declared.head.Head.{Head}
-use Rattle.link_requests.specs.declared.misfit.ValueMisfit.{ValueMisfit}
-use Rattle.link_requests.specs.declared.misfit.ValueMisfit.TheVariants as misfits
 use Rattle.link_requests.specs.declared.misfit.RequestError.{RequestError}
 use Rattle.link_requests.specs.declared.misfit.RequestError.TheVariants as errors
 use Rattle.link_requests.specs.Request.{request_of}
 use Rattle.nlroute_ffi.specs.declared.refusal.Refusal.{Refusal}
-use Rattle.nlroute_ffi.specs.declared.refusal.Refusal.TheVariants.{TooLong, NoRoom, BadType, NoIndex, BadName, NoSet}
+use Rattle.nlroute_ffi.specs.declared.refusal.Refusal.TheVariants.{TooLong, NoRoom, BadType, NoIndex}
 use Rattle.nlroute_ffi.specs.Writing.{refusal_for}
-
--- the error code for a value that cannot be written
-abbrev pub refusal_of_value : ValueMisfit → Refusal
-refusal_of_value misfits.BadName = BadName
-refusal_of_value misfits.NoSet = NoSet
-refusal_of_value (misfits.Entry misfit) = refusal_for misfit
 
 -- the error code for a request that cannot be written
 abbrev pub refusal_of_request : RequestError → Refusal
 refusal_of_request errors.BadType = BadType
 refusal_of_request errors.NoIndex = NoIndex
-refusal_of_request (errors.Value first) = refusal_of_value first.misfit
+refusal_of_request (errors.Value first) = refusal_for first.misfit
 refusal_of_request errors.TooLarge = TooLong
 
 -- the index of the value that cannot be written; of an error of the head or the whole, the number of values

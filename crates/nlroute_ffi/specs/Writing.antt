@@ -8,7 +8,7 @@ use Rattle.link_entries.specs.declared.misfit.Misfit.{Misfit}
 use Rattle.link_entries.specs.declared.misfit.Misfit.TheVariants as misfits
 use Rattle.link_entries.specs.Spelled.{Spelling, spelled_by}
 use Rattle.nlroute_ffi.specs.declared.refusal.Refusal.{Refusal}
-use Rattle.nlroute_ffi.specs.declared.refusal.Refusal.TheVariants.{TooLong, NoRoom, BadForm, BadNumber, BadElement, BadOctets}
+use Rattle.nlroute_ffi.specs.declared.refusal.Refusal.TheVariants.{TooLong, NoRoom, BadForm, BadNumber, BadElement, BadOctets, BadDepth, Repeated, BadName, NoSet}
 
 -- the error code for an entry that cannot be written
 abbrev pub refusal_for : Misfit → Refusal
@@ -17,6 +17,10 @@ refusal_for misfits.BadForm = BadForm
 refusal_for misfits.BadNumber = BadNumber
 refusal_for misfits.BadElement = BadElement
 refusal_for misfits.BadOctets = BadOctets
+refusal_for misfits.BadDepth = BadDepth
+refusal_for misfits.Repeated = Repeated
+refusal_for misfits.BadName = BadName
+refusal_for misfits.NoSet = NoSet
 
 -- the buffer starts with the list, whose length is n, and the rest is unchanged; or the buffer is too small, or an entry
 -- cannot be written, and the buffer is unchanged

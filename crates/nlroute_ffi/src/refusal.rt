@@ -42,6 +42,10 @@ pub enum Refusal {
     BadName = -13,
     /// Values follow a list that no attribute set reads.
     NoSet = -14,
+    /// The depth of a value is not that of its list, or it is not marked as an attribute of the message.
+    BadDepth = -15,
+    /// A second list of a type of which a message has one.
+    Repeated = -16,
 }
 
 /// Returns the `Refusal` for an error of re-encoding a list.
@@ -65,6 +69,10 @@ pub(crate) fn refused_for(misfit: Misfit) -> Refusal
         Misfit::BadNumber => Refusal::BadNumber,
         Misfit::BadElement => Refusal::BadElement,
         Misfit::BadOctets => Refusal::BadOctets,
+        Misfit::BadDepth => Refusal::BadDepth,
+        Misfit::Repeated => Refusal::Repeated,
+        Misfit::BadName => Refusal::BadName,
+        Misfit::NoSet => Refusal::NoSet,
     }
 }
 
@@ -99,6 +107,8 @@ fn refusal_with(code: isize) -> Option<Refusal>
         -12 => Some(Refusal::NoIndex),
         -13 => Some(Refusal::BadName),
         -14 => Some(Refusal::NoSet),
+        -15 => Some(Refusal::BadDepth),
+        -16 => Some(Refusal::Repeated),
         _ => None,
     }
 }
@@ -122,6 +132,8 @@ fn refusal_words(refusal: Refusal) -> &'static str
         Refusal::NoIndex => "the index of the link is 0 or negative",
         Refusal::BadName => "Linux does not take the name or kind",
         Refusal::NoSet => "no attribute set reads the list of these values",
+        Refusal::BadDepth => "the value has a wrong depth, or is not marked as one of the message",
+        Refusal::Repeated => "the message has a second list of this type",
     }
 }
 

@@ -2,11 +2,11 @@
 
 ghost use Rattle.std.specs.Prelude.{◌≡◌, ◌<◌, ◌^◌, length, IfOk, OnErr};
 ghost use Rattle.link_requests.specs.Request.{request_of};
-ghost use Rattle.nlroute_ffi.specs.Requests.{RequestAnswers, refusal_of_value, refusal_of_request, index_of};
+ghost use Rattle.nlroute_ffi.specs.Requests.{RequestAnswers, refusal_of_request, index_of};
 
 use crate::refusal::{Refusal, refused_for};
 use link_entries::Entry;
-use link_requests::{Head, RequestError, ValueMisfit, measure, write_request};
+use link_requests::{Head, RequestError, measure, write_request};
 
 /// Writes the request that a head and values spell to the start of `out`. Returns the number of bytes written; the rest of
 /// `out`, and `at`, are unchanged.
@@ -67,18 +67,7 @@ fn refused_request(error: RequestError) -> Refusal
     match error {
         RequestError::BadType => Refusal::BadType,
         RequestError::NoIndex => Refusal::NoIndex,
-        RequestError::Value(first) => refused_value(first.misfit),
+        RequestError::Value(first) => refused_for(first.misfit),
         RequestError::TooLarge => Refusal::TooLong,
-    }
-}
-
-/// Returns the `Refusal` for a value that cannot be written.
-fn refused_value(misfit: ValueMisfit) -> Refusal
-    ensures { result ≡ refusal_of_value misfit }
-{
-    match misfit {
-        ValueMisfit::BadName => Refusal::BadName,
-        ValueMisfit::NoSet => Refusal::NoSet,
-        ValueMisfit::Entry(misfit) => refused_for(misfit),
     }
 }

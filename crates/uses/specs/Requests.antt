@@ -3,15 +3,15 @@ use Rattle.std.specs.Prelude.{ℕ, List, [], ◌∷◌, ◌++◌, length, codes}
 use Rattle.link_entries.specs.declared.entry.Entry.{Entry}
 use Rattle.link_entries.specs.Entry.{blank, padded}
 use Rattle.link_entries.specs.Forms.{form_list, form_text, form_held}
-use Rattle.link_requests.specs.Value.{inline}
+use Rattle.link_requests.specs.Value.{inline, of_message}
 
--- a value at a depth, without content: its attribute type, that of the element, and its form
+-- a value at a depth, without content: its attribute type, that of the element or the mark of the message, and its form
 abbrev pub empty_value : ℕ → ℕ → ℕ → ℕ → Entry
 empty_value depth kind inner form = record (blank kind inner depth 0 0) { form = form }
 
 -- a number; its form is that of its type
-abbrev pub number_value : ℕ → ℕ → ℕ → Entry
-number_value depth kind n = record (empty_value depth kind 0 0) { number = n }
+abbrev pub number_value : ℕ → ℕ → ℕ → ℕ → Entry
+number_value depth kind inner n = record (empty_value depth kind inner 0) { number = n }
 
 -- a text of these bytes
 abbrev pub text_value : ℕ → ℕ → ℕ → List ℕ → Entry
@@ -26,8 +26,8 @@ held_value depth kind inner = record (empty_value depth kind inner form_held) { 
 abbrev pub bond_values : List Entry
 bond_values =
     text_value 0 3 0 (codes "bond0" ++ 0 ∷ []) ∷
-    empty_value 0 18 0 form_list ∷
+    empty_value 0 18 of_message form_list ∷
     text_value 1 18 1 (codes "bond") ∷
     held_value 1 18 2 ∷
-    number_value 2 1 4 ∷
-    number_value 2 3 100 ∷ []
+    number_value 2 1 0 4 ∷
+    number_value 2 3 0 100 ∷ []

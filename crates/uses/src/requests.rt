@@ -3,12 +3,13 @@
 ghost use Rattle.std.specs.Prelude.{◌≡◌, ◌↔◌, ◌<◌, ◌≤◌, [], ◌∷◌, length, pos, None, Ok, IfErr};
 ghost use Rattle.link_requests.specs.Request.{head_with, request_of, Stores};
 ghost use Rattle.link_requests.specs.declared.misfit.RequestError.{RequestError};
+ghost use Rattle.link_requests.specs.Value.{of_message};
 ghost use Rattle.uses.specs.Requests.{empty_value, number_value, text_value, held_value, bond_values};
 
 use link_entries::octets::padded;
 use link_entries::{Entry, forms};
 use link_messages::link_types::{IFLA_IFNAME, IFLA_LINKINFO, IFLA_MASTER};
-use link_requests::{Head, INLINE, RequestError, write_request};
+use link_requests::{Head, INLINE, OF_MESSAGE, RequestError, write_request};
 
 // Types in an IFLA_LINKINFO (`include/uapi/linux/if_link.h`).
 
@@ -47,10 +48,10 @@ pub fn bond_message(out: &mut [u8]) -> Result<Option<usize>, RequestError>
 ///
 /// `NoIndex` if `port` is not positive; no other error occurs.
 pub fn join(port: i32, bond: u32, out: &mut [u8]) -> Result<Option<usize>, RequestError>
-    ensures written { Stores (request_of (head_with 16 4 port) [] (number_value 0 10 bond ∷ [])) out.old out.new result }
+    ensures written { Stores (request_of (head_with 16 4 port) [] (number_value 0 10 of_message bond ∷ [])) out.old out.new result }
     ensures no_index { IfErr result (λ error. error ≡ RequestError.NoIndex) }
 {
-    let values = [number(0, IFLA_MASTER, bond.into())];
+    let values = [number(0, IFLA_MASTER, OF_MESSAGE, bond.into())];
     write_request(&Head::change(port), &values, &[], out)
 }
 
@@ -67,17 +68,18 @@ pub fn delete_link(index: i32, out: &mut [u8]) -> Result<Option<usize>, RequestE
     write_request(&Head::delete(index), &[], &[], out)
 }
 
-/// Returns the values of `bond_message`. A value is one deeper than the list that it is in.
+/// Returns the values of `bond_message`. A value is one deeper than the list that it is in; numbers and lists of the message are
+/// marked.
 fn bond_values() -> [Entry; 6]
     ensures { result ≡ bond_values }
 {
     [
         text(0, IFLA_IFNAME, 0, b"bond0\0"),
-        value(0, IFLA_LINKINFO, 0, forms::LIST),
+        value(0, IFLA_LINKINFO, OF_MESSAGE, forms::LIST),
         text(1, IFLA_LINKINFO, IFLA_INFO_KIND, b"bond"),
         held(1, IFLA_LINKINFO, IFLA_INFO_DATA),
-        number(2, IFLA_BOND_MODE, BOND_MODE_8023AD),
-        number(2, IFLA_BOND_MIIMON, 100),
+        number(2, IFLA_BOND_MODE, 0, BOND_MODE_8023AD),
+        number(2, IFLA_BOND_MIIMON, 0, 100),
     ]
 }
 
@@ -100,12 +102,12 @@ fn value(depth: u8, kind: u16, inner: u16, form: u8) -> Entry
 }
 
 /// Returns a number. Its form, 0, stands for that of its type.
-fn number(depth: u8, kind: u16, number: u64) -> Entry
-    ensures { result ≡ number_value depth kind number }
+fn number(depth: u8, kind: u16, inner: u16, number: u64) -> Entry
+    ensures { result ≡ number_value depth kind inner number }
 {
     Entry {
         number,
-        ..value(depth, kind, 0, 0)
+        ..value(depth, kind, inner, 0)
     }
 }
 

@@ -7,7 +7,9 @@
  * - Each answer is one that the header has, and *at is what it says.
  * - Nothing is written on refusal, nor behind a request; a byte less is NLROUTE_NO_ROOM.
  * - What is written is a message of this head, and its values, also those in lists of other sets, are those passed.
- * - A message of canonical lists is written as it is.
+ * - Attributes of the message are marked, or have to name their form; others are not marked. IFLA_LINKINFO, IFLA_AF_SPEC and
+ *   IFLA_PROTINFO are there once.
+ * - A message of canonical lists is written as it is, unless it repeats such a list.
  *
  * Arguments end where a page begins that cannot be touched, as in ../fuzz.c.
  */
@@ -73,6 +75,37 @@ static void take_in(struct nlroute_value *value) {
     value->offset = NLROUTE_INLINE;
 }
 
+/* Whether values with this row have to name their form: only these need no mark in the message. */
+static bool names_form(const struct nlroute_row *row) {
+    return row->form == NLROUTE_FORM_TEXT || row->form == NLROUTE_FORM_HELD || row->form == NLROUTE_FORM_UNKNOWN
+        || (row->form == NLROUTE_FORM_BYTES && !row->width);
+}
+
+/* The row of an attribute of the message. */
+static struct nlroute_row row_of(uint16_t kind) {
+    struct nlroute_row row = {0};
+    must(!nlroute_row(NLROUTE_LINK, kind, 0, 0, &row), "an attribute has a row");
+    return row;
+}
+
+static bool is_placed(const struct nlroute_value *it) {
+    const struct nlroute_row row = row_of(it->kind);
+    return it->inner == NLROUTE_OF_MESSAGE || names_form(&row);
+}
+
+/* The index of the first second list of a type of which a message has one, or the number of values. */
+static size_t repeated(void) {
+    bool has_linkinfo = false, has_spec = false, has_protinfo = false;
+    for (size_t i = 0; i < count; i++) {
+        bool *has = values[i].kind == NLROUTE_IFLA_LINKINFO ? &has_linkinfo
+            : values[i].kind == NLROUTE_IFLA_AF_SPEC ? &has_spec : values[i].kind == PROTINFO ? &has_protinfo : NULL;
+        if (!has || values[i].depth) continue;
+        if (*has) return i;
+        *has = true;
+    }
+    return count;
+}
+
 static bool is_protinfo(uint32_t set, const struct nlroute_value *it) {
     return set == NLROUTE_LINK && head.address_family == 7 && it->depth == 0 && it->kind == PROTINFO
         && it->form == NLROUTE_FORM_UNKNOWN && it->flags == NESTED;
@@ -96,6 +129,8 @@ static void flatten(uint32_t set, size_t from, size_t size, size_t depth) {
         bool opens = inner >= 0 && nlroute_count((uint32_t)inner, octets + start, it.length) > 0;
         if (opens) it.form = NLROUTE_FORM_HELD, it.flags = 0, it.offset = NLROUTE_INLINE;
         take_in(&it);
+        /* Attributes of the message are marked; of those that need no mark, every other one. */
+        if (depth == 0 && it.depth == 0 && !(is_placed(&it) && it.offset % 8 < 4)) it = nlroute_of_message(it);
         add(it, depth + it.depth);
         if (opens) flatten((uint32_t)inner, start, it.length, depth + found[i].depth + 1);
     }
@@ -105,14 +140,7 @@ static void flatten(uint32_t set, size_t from, size_t size, size_t depth) {
 /* The head and the values of a message. Returns whether it is one about a link whose lists decode. */
 static bool of_message(void) {
     struct nlroute_message it;
-    if (nlroute_message(octets, len, 0, &it)) return false;
-    if (!it.is_link) {
-        /* Requests about properties, which no reader of links has to know, have the same headers. */
-        if ((it.type != 108 && it.type != 109) || it.length < 16) return false;
-        it.list += 16, it.length -= 16, it.address_family = octets[16];
-        memcpy(&it.link_type, octets + 18, 2), memcpy(&it.index, octets + 20, 4);
-        memcpy(&it.link_flags, octets + 24, 4), memcpy(&it.change, octets + 28, 4);
-    }
+    if (nlroute_message(octets, len, 0, &it) || !it.is_link) return false;
     head = nlroute_head(it.type, it.flags, it.index);
     head.sequence = it.sequence, head.port = it.port, head.address_family = it.address_family;
     head.link_type = it.link_type, head.link_flags = it.link_flags, head.change = it.change;
@@ -140,19 +168,23 @@ static const char *told(struct level *to, bool is_port) {
     return kind;
 }
 
-/* A value of the list at hand, of the form that it has there. */
+/* A value of the list at hand, with the form that it has there, or none. Most of the message are marked that have to be. */
 static struct nlroute_value fitting(const struct level *in, struct nlroute_row *row) {
     uint16_t kind = byte() % 80;
     struct nlroute_value it = nlroute_number(in->has_elements ? in->list : kind, 0);
     it.inner = in->has_elements ? kind : 0;
     if (nlroute_row(in->set, it.kind, it.inner, in->has_elements, row)) row->form = 0, row->is_list = 0, row->width = 0;
     it.form = row->form, it.number = byte() % 4 ? byte() & 1 : word(), it.second = byte() % 2;
-    it.offset = row->width > 8 ? byte() : taken, it.length = row->width > 8 ? row->width : byte() % 32;
+    bool is_struct = row->width > 8 || (row->form == NLROUTE_FORM_BYTES && row->width);
+    it.offset = row->width > 8 ? byte() : taken, it.length = is_struct ? row->width : byte() % 32;
     memcpy(it.octets, octets + (taken + 16 < len ? taken : 0), len < 16 ? len : 16);
     if (row->form <= NLROUTE_FORM_BERR_COUNTER) it.offset = 0, it.length = 0;
     if (row->form == NLROUTE_FORM_HELD) it.offset = NLROUTE_INLINE;
     take_in(&it);
-    return it;
+    uint8_t how = byte();
+    if (how % 4 == 1) it.form = NLROUTE_FORM_OF_KIND;
+    bool is_of_message = in->set == NLROUTE_LINK && !in->has_elements;
+    return is_of_message && (how & 64 || !names_form(row)) && how < 240 ? nlroute_of_message(it) : it;
 }
 
 /* The head and the values that the octets describe. */
@@ -168,7 +200,7 @@ static void of_description(void) {
         struct nlroute_row row = {0};
         switch (byte() % 8) {
         case 0: it = nlroute_name(words[byte() % (sizeof words / sizeof *words)]); break;
-        case 1: it = nlroute_list(NLROUTE_IFLA_LINKINFO), next = (struct level){in->set, it.kind, true}; break;
+        case 1: it = nlroute_linkinfo(), next = (struct level){in->set, it.kind, true}; break;
         case 2: it = nlroute_info_kind(told(&data, false)); break;
         case 3: it = nlroute_port_kind(told(&data, true)); break;
         case 4: it = byte() % 2 ? nlroute_info_data() : nlroute_port_data(), next = data; break;
@@ -190,7 +222,7 @@ static void of_description(void) {
 static void change(const uint8_t *how) {
     uint32_t to = how[2] | (uint32_t)how[3] << 8;
     struct nlroute_value *it = &values[count ? how[0] % count : 0];
-    switch (how[1] % 16) {
+    switch (how[1] % 19) {
     case 0: it->kind = (uint16_t)to; break;
     case 1: it->inner = (uint16_t)to; break;
     case 2: it->flags = (uint16_t)to; break;
@@ -204,7 +236,10 @@ static void change(const uint8_t *how) {
     case 12: it->octets[to % 16] = (uint8_t)(to >> 8); break;
     case 13: head.type = (uint16_t)to; break;
     case 14: head.index = (int32_t)to - 8; break;
-    default: it->number = ~(uint64_t)to; break;
+    case 15: it->number = ~(uint64_t)to; break;
+    case 16: it->inner = NLROUTE_OF_MESSAGE; break;
+    case 17: it->inner = 0; break;
+    default: *it = values[count ? to % count : 0]; break;
     }
 }
 
@@ -262,6 +297,8 @@ static size_t compared(uint32_t set, const uint8_t *list, size_t size, size_t i,
         must(i < count && values[i].depth == depth + found[k].depth, "as many values as were passed");
         same(set, &found[k], &values[i], list);
         must(has_name(set, &found[k], list + found[k].offset), "Linux takes the name");
+        bool is_marked = values[i].inner == NLROUTE_OF_MESSAGE && !found[k].depth;
+        must(set == NLROUTE_LINK ? found[k].depth || is_placed(&values[i]) : !is_marked, "those of the message have the mark");
         if (values[i].form != NLROUTE_FORM_HELD || values[i].offset != NLROUTE_INLINE) continue;
         ptrdiff_t inner = nlroute_opens(set, head.address_family, &found[k], list, size);
         must(inner >= 0, "a set reads the list");
@@ -277,10 +314,9 @@ static void read_back(const uint8_t *out, size_t size) {
     must(nlroute_message(out, size, 0, &it) == 0 && it.len == size && it.next == size, "a request is one message");
     must(it.type == head.type && it.flags == (head.flags | 1), "of the type and the flags of the head");
     must(it.sequence == head.sequence && it.port == head.port, "and of its numbers");
-    if (it.is_link) {
-        must(it.index == head.index && it.link_flags == head.link_flags && it.change == head.change, "of this link");
-        must(it.link_type == head.link_type && it.address_family == head.address_family, "and its type");
-    }
+    must(it.is_link && it.index == head.index && it.link_flags == head.link_flags && it.change == head.change, "of this link");
+    must(it.link_type == head.link_type && it.address_family == head.address_family, "and its type");
+    must(repeated() == count, "no list of the message is repeated");
     must(compared(NLROUTE_LINK, out + 32, size - 32, 0, 0) == count, "all values are written");
 }
 
@@ -292,21 +328,57 @@ static ptrdiff_t of_head(void) {
     return is_free || head.index > 0 ? 0 : NLROUTE_NO_INDEX;
 }
 
-/* A value at fault. Of one of the message itself, nlroute_measure() says the same. */
+/* Whether a value has bytes: those of its own, or of the octets. */
+static bool has_bytes(const struct nlroute_value *it) {
+    return it->offset == NLROUTE_INLINE ? it->length <= 16 : it->length <= len && it->offset <= len - it->length;
+}
+
+/* Whether a value is a list of another set that has bytes and values, or neither. */
+static bool is_held_wrongly(size_t at) {
+    bool is_followed = at + 1 < count && values[at + 1].depth > values[at].depth;
+    return values[at].form == NLROUTE_FORM_HELD && (values[at].offset == NLROUTE_INLINE) != is_followed;
+}
+
+/* An attribute of the message at fault, which is not a second list. nlroute_measure() has the same error, once it is placed. */
+static void attribute_at_fault(ptrdiff_t answer, size_t at) {
+    struct nlroute_value it = values[at];
+    const struct nlroute_row row = row_of(it.kind);
+    bool is_list = it.kind == PROTINFO && head.address_family == 7 && it.form == NLROUTE_FORM_HELD;
+    size_t none;
+    must(answer != NLROUTE_BAD_ELEMENT, "an attribute is no element");
+    must(is_placed(&it) || answer == NLROUTE_BAD_DEPTH, "a mark is missing");
+    if (!is_placed(&it)) return;
+    bool has_form = is_list || it.form == row.form || (it.form == NLROUTE_FORM_OF_KIND && !names_form(&row));
+    must((answer == NLROUTE_BAD_FORM) == !has_form, "a bad form is the first error of a value in its place");
+    if (!has_form) return;
+    bool is_held = is_list || row.form == NLROUTE_FORM_HELD;
+    must((answer == NLROUTE_BAD_DEPTH) == (is_held && is_held_wrongly(at)), "a list has bytes, or values follow");
+    bool is_struct = row.form == NLROUTE_FORM_BYTES && row.width;
+    bool has_wrong_bytes = !has_bytes(&it) || (is_struct && it.length != row.width);
+    if (is_struct || row.form == NLROUTE_FORM_BYTES || row.form == NLROUTE_FORM_TEXT)
+        must((answer == NLROUTE_BAD_OCTETS) == has_wrong_bytes, "bad octets");
+    if (it.offset == NLROUTE_INLINE || is_list) return;
+    ptrdiff_t alone = nlroute_measure(NLROUTE_LINK, &it, 1, octets, len, &none);
+    if (answer == NLROUTE_BAD_NUMBER || alone == NLROUTE_BAD_NUMBER) must(alone == answer, "a bad number");
+}
+
+/* A value at fault. */
 static void at_fault(ptrdiff_t answer, size_t at) {
     struct nlroute_value it = values[at];
-    size_t none;
-    must(answer != NLROUTE_NO_SET || (it.form == NLROUTE_FORM_HELD && it.offset == NLROUTE_INLINE), "no set for a list");
-    bool fits_in = it.offset == NLROUTE_INLINE ? it.length <= 16 : it.length <= len && it.offset <= len - it.length;
+    must(at <= repeated() && (answer == NLROUTE_REPEATED) == (at == repeated()), "a repeated list");
+    if (answer == NLROUTE_REPEATED) return;
+    bool is_inline = it.form == NLROUTE_FORM_HELD && it.offset == NLROUTE_INLINE;
+    must(answer != NLROUTE_NO_SET || (is_inline && !is_held_wrongly(at)), "no set for a list");
     bool is_any = it.form == NLROUTE_FORM_TEXT || it.form == NLROUTE_FORM_HELD;
-    must(answer != NLROUTE_BAD_OCTETS || !is_any || !fits_in, "bad octets");
-    if (answer == NLROUTE_BAD_NAME) must(fits_in, "a name is there");
-    if (answer == NLROUTE_BAD_NAME && it.depth < 2) must(!has_name(NLROUTE_LINK, &it, passed(&it)), "Linux rejects the name");
-    if (it.depth || it.offset == NLROUTE_INLINE || it.kind == PROTINFO) return;
-    ptrdiff_t alone = nlroute_measure(NLROUTE_LINK, &it, 1, octets, len, &none);
-    if (answer == NLROUTE_BAD_NUMBER) must(alone == answer, "a bad number");
-    if (answer == NLROUTE_BAD_FORM) must(alone == answer || it.form == NLROUTE_FORM_OF_KIND, "a bad form");
-    if (alone == NLROUTE_BAD_FORM) must(answer == alone, "a bad form is the first error of a value");
+    must(answer != NLROUTE_BAD_OCTETS || !is_any || (!is_inline && !has_bytes(&it)), "bad octets");
+    if (answer == NLROUTE_BAD_NAME) must(has_bytes(&it) && it.depth < 2, "a name is there");
+    if (answer == NLROUTE_BAD_NAME) must(!has_name(NLROUTE_LINK, &it, passed(&it)), "Linux rejects the name");
+    size_t before = at ? values[at - 1].depth : 0;
+    bool is_too_deep = at ? it.depth > before + 1 : it.depth > 0;
+    must(!is_too_deep || answer == NLROUTE_BAD_DEPTH, "a depth that no list has");
+    if (!it.depth) return attribute_at_fault(answer, at);
+    bool is_deeper = it.depth > before, is_marked = it.inner == NLROUTE_OF_MESSAGE;
+    if (answer == NLROUTE_BAD_DEPTH) must(is_deeper || is_marked || is_held_wrongly(at), "a bad depth");
 }
 
 static ptrdiff_t called(size_t room, size_t *at) {
@@ -318,7 +390,7 @@ static ptrdiff_t called(size_t room, size_t *at) {
     ptrdiff_t answer = nlroute_request(it, them, count, octets, len, out_end - room, room, told_at);
     must(!memcmp(it, &head, sizeof head) && !memcmp(them, values, count * sizeof *them), "arguments are not written to");
     size_t written = answer < 0 ? 0 : (size_t)answer;
-    must(written <= room && answer >= NLROUTE_NO_SET, "a length, or a refusal");
+    must(written <= room && answer >= NLROUTE_REPEATED, "a length, or a refusal");
     for (size_t i = written; i < room; i++) must(out_end[i - room] == LENT, "nothing is written but a request");
     for (size_t i = 1; i <= 4; i++) must(out_end[-(ptrdiff_t)(room + i)] == LENT, "nothing is written before the buffer");
     *at = *told_at;
@@ -334,7 +406,7 @@ static ptrdiff_t request(size_t more) {
         must(answer == of_head() || !of_head(), "the answer of a head");
         must(called(PAGE + more, &at) == answer && at == size, "the same answer with room");
         must(of_head() ? at == count : at < count, "*at is the index of a value, or their number");
-        bool is_of_value = answer == NLROUTE_TOO_LONG || answer == NLROUTE_BAD_NAME || answer == NLROUTE_NO_SET
+        bool is_of_value = answer == NLROUTE_TOO_LONG || (answer <= NLROUTE_BAD_NAME && answer >= NLROUTE_REPEATED)
             || (answer <= NLROUTE_BAD_FORM && answer >= NLROUTE_BAD_OCTETS);
         must(of_head() || is_of_value, "a refusal of a value");
         if (!of_head()) at_fault(answer, at);
@@ -363,7 +435,8 @@ int LLVMFuzzerTestOneInput(const uint8_t *data, size_t size) {
     ptrdiff_t answer = request(data[0] & 15);
     must(!memcmp(octets, data + 4 * changes + 1, len), "octets are not written to");
     if (!is_message || changes) return 0;
-    must(answer >= 0 || answer == of_head() || answer == NLROUTE_BAD_NAME || answer == NLROUTE_TOO_LONG, "values are written");
+    bool is_due = answer == of_head() || answer == NLROUTE_BAD_NAME || answer == NLROUTE_TOO_LONG || answer == NLROUTE_REPEATED;
+    must(answer >= 0 || is_due, "values are written");
     if (answer < 0 || !is_canonical) return 0;
     must((size_t)answer == 32 + list_length, "canonical lists keep their length");
     must(!memcmp(octets + 32, out_end - answer + 32, list_length), "canonical lists are written as they are");

@@ -82,14 +82,19 @@ fn numbers_by_their_names(rt: HostRuntime) {
 #[test]
 fn texts_of_codes(rt: HostRuntime) {
     let rows = [
-        (-15, "unknown error"),
+        (-17, "unknown error"),
+        (-16, "the message has a second list of this type"),
+        (
+            -15,
+            "the value has a wrong depth, or is not marked as one of the message",
+        ),
         (-13, "Linux does not take the name or kind"),
         (-4, "the buffer is too small"),
         (-1, "the list is malformed"),
         (0, "no error"),
     ];
     for (code, wanted) in rows {
-        let mut out = [0xFF; 40];
+        let mut out = [0xFF; 80];
         assert!(rt; holds_text(nlroute_code_text(code, &mut out), &out, wanted),);
     }
 }

@@ -3,7 +3,7 @@
 use crate::nlroute_request;
 use crate::tests::{BLANK, holds};
 use link_entries::{Entry, forms};
-use link_requests::{Head, INLINE};
+use link_requests::{Head, INLINE, OF_MESSAGE};
 
 /// The request that makes a bond `bond0` with `IFLA_BOND_MODE` 4 and `IFLA_BOND_MIIMON` 100.
 const BOND: [u8; 76] = [
@@ -25,7 +25,11 @@ const VALUES: [Entry; 6] = [
         octets: NAME,
         ..BLANK
     },
-    Entry { kind: 18, ..BLANK },
+    Entry {
+        kind: 18,
+        inner: OF_MESSAGE,
+        ..BLANK
+    },
     Entry {
         kind: 18,
         inner: 1,
@@ -79,9 +83,9 @@ fn bond_is_written(rt: HostRuntime) {
 
 #[test]
 fn requests_that_cannot_be_written(rt: HostRuntime) {
-    let [name, _, kind, _, mode, _] = VALUES;
+    let [name, info, kind, _, mode, _] = VALUES;
     // the error code, the index of the value that has the error, and that of the one which is replaced
-    let rows: [(isize, usize, usize, Entry); 10] = [
+    let rows: [(isize, usize, usize, Entry); 14] = [
         (-13, 0, 0, Entry { length: 0, ..name }),
         (
             -13,
@@ -105,9 +109,23 @@ fn requests_that_cannot_be_written(rt: HostRuntime) {
                 ..mode
             },
         ),
-        (-9, 4, 4, Entry { depth: 3, ..mode }),
-        (-9, 3, 4, Entry { depth: 0, ..mode }),
-        (-9, 0, 0, Entry { depth: 1, ..name }),
+        (-9, 3, 3, Entry { depth: 1, ..mode }),
+        (-15, 4, 4, Entry { depth: 3, ..mode }),
+        (-15, 3, 4, Entry { depth: 0, ..mode }),
+        (-15, 0, 0, Entry { depth: 1, ..name }),
+        // a list that is not marked, and a mark in the data of the bond
+        (-15, 1, 1, Entry { inner: 0, ..info }),
+        (
+            -15,
+            4,
+            4,
+            Entry {
+                inner: OF_MESSAGE,
+                ..mode
+            },
+        ),
+        // a second list of kinds
+        (-16, 5, 5, info),
     ];
     for (answer, index, place, value) in rows {
         let (mut values, mut out, mut at) = (VALUES, [0xFF; 80], 9);

@@ -2,14 +2,13 @@ use borrow.Rule.Slice.PartMut.{put_mid}
 use Rattle.std.proofs.Common.{◌≡◌, ◌∙◌, ◌+◌, ◌-◌, ◌≤◌, [], ◌++◌, cond, Ok, Err, length, take, drop, replicate, refl, sym, ap, ap₂, subst, arith, ⊎_elim}
 use Rattle.std.proofs.lemmas.List.{append-nil, length-append}
 use Rattle.link_base.specs.Frame.{max_payload, pad}
-use Rattle.link_entries.specs.Stored.{StoresAt, header, padded}
-use Rattle.link_entries.proofs.StoredBytes.{stored_frame, stored_more, stored_padded, stored_part, part_length}
+use Rattle.link_entries.specs.Spelled.{alone, before, fitted}
+use Rattle.link_entries.specs.Stored.{StoresAt, StoresPayload, Spells, header, padded}
+use Rattle.link_entries.proofs.Spellings.{reached_by, reached_more, reached_skip}
+use Rattle.link_entries.proofs.StoredBytes.{stored_frame, stored_more, stored_padded, stored_part, part_length, sized_ok, sized_err, spells_ok, spells_err, spells_error, spells_frame, spells_behind}
 use Rattle.link_requests.specs.Opening.{kinds_of}
-use Rattle.link_requests.specs.Spelling.{alone, before, fitted, Spells, StoresPayload}
 use Rattle.link_requests.specs.Value.{value_payload, scope_below, inside_of, below_of, value_of}
 use Rattle.link_requests.specs.Values.{values_of, inner_of}
-use Rattle.link_requests.proofs.Spellings.{reached_by, reached_more, reached_skip}
-use Rattle.link_requests.proofs.StoredValues.{sized_ok, sized_err, spells_ok, spells_err, spells_error, spells_frame, spells_behind}
 use Rattle.link_requests.proofs.Following.{attribute_same, nothing_own}
 use Rattle.link_requests.proofs.Steps.{value_here, value_skipped}
 use Rattle.link_requests.proofs.values.+values.Goals as goal
@@ -130,7 +129,7 @@ put_values-loop-entry-preserved-in-Ok t c =
     let e = c.in-Some.entry.now in
     let es = c.in-Some.others.now in
     let all = values_of octets scope depth x 0 c.args.entries.now in
-    let next = reached_by all _ text i _ reached (ap (values_of octets scope depth x i) c.in-Some.ensures.cases.0 ∙ value_here octets scope depth x i e es c.if-entry-level-2.true) in
+    let next = reached_by all _ _ text i reached (ap (values_of octets scope depth x i) c.in-Some.ensures.cases.0 ∙ value_here octets scope depth x i e es c.if-entry-level-2.true) in
     let place : length c.args.entries.now - length c.loop-entry.rest.now ≡ i = omega (arith, count) in
     let here : _ ≡ value_of octets scope depth x i e es (inner_of octets depth x es) = ap (λ j. value_of octets scope depth x j e es (inner_of octets depth x es)) place in
     let (s, is, n, placed) = spells_ok (value_of octets scope depth x (length c.args.entries.now - length c.loop-entry.rest.now) e es (inner_of octets depth x es)) (take (length room - from) (drop from room)) sub c.in-Ok.size c.in-Ok.ensures.spells in (
@@ -139,7 +138,7 @@ put_values-loop-entry-preserved-in-Ok t c =
       omega (arith, count, c.in-Some.ensures.cases.1),
       omega (arith, length-append text s, size, n, c.saturating_add-len.ensures),
       stored_more text s c.args.room.now room sub _ from stored (omega arith) (omega (arith, size, c.min-from.ensures)) placed refl,
-      reached_more all (values_of octets scope depth x (i + 1) es) text i s _ next (sym here ∙ is),
+      reached_more all (values_of octets scope depth x (i + 1) es) text s i _ next (sym here ∙ is),
     )
 
 pub put_values-loop-entry-preserved : goal.put_values-loop-entry-preserved
@@ -152,7 +151,7 @@ put_values-loop-entry-preserved t c =
     let e = c.in-Some.entry.now in
     let es = c.in-Some.others.now in
     let all = values_of octets scope depth x 0 c.args.entries.now in
-    let next = reached_by all _ text i _ reached (ap (values_of octets scope depth x i) c.in-Some.ensures.cases.0 ∙ value_skipped octets scope depth x i e es c.if-entry-level.false c.if-entry-level-2.false) in
+    let next = reached_by all _ _ text i reached (ap (values_of octets scope depth x i) c.in-Some.ensures.cases.0 ∙ value_skipped octets scope depth x i e es c.if-entry-level.false c.if-entry-level-2.false) in
     (text, i + 1, omega (arith, count, c.in-Some.ensures.cases.1), size, stored, reached_skip all (values_of octets scope depth x (i + 1) es) text i (Ok []) next refl)
 
 pub put_values-returns-in-Err-clause-spells : goal.put_values-returns-in-Err-clause-spells
@@ -169,7 +168,7 @@ put_values-returns-in-Err-clause-spells t c =
     let e = c.in-Some.entry.now in
     let es = c.in-Some.others.now in
     let all = values_of octets scope depth x 0 c.args.entries.now in
-    let next = reached_by all _ text i _ reached (ap (values_of octets scope depth x i) c.in-Some.ensures.cases.0 ∙ value_here octets scope depth x i e es c.if-entry-level-2.true) in
+    let next = reached_by all _ _ text i reached (ap (values_of octets scope depth x i) c.in-Some.ensures.cases.0 ∙ value_here octets scope depth x i e es c.if-entry-level-2.true) in
     let place : length c.args.entries.now - length c.loop-entry.rest.now ≡ i = omega (arith, count) in
     let here : _ ≡ value_of octets scope depth x i e es (inner_of octets depth x es) = ap (λ j. value_of octets scope depth x j e es (inner_of octets depth x es)) place in
     let (bad, same) = spells_err (value_of octets scope depth x (length c.args.entries.now - length c.loop-entry.rest.now) e es (inner_of octets depth x es)) (take (length room - from) (drop from room)) sub first c.in-Err.ensures.spells in

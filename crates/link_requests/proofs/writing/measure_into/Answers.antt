@@ -1,6 +1,6 @@
 use Rattle.std.proofs.Common.{◌∙◌, sym}
 use Rattle.link_requests.specs.Request.{attributes_of}
-use Rattle.link_requests.proofs.StoredValues.{spells_ok, spells_err}
+use Rattle.link_entries.proofs.StoredBytes.{spells_ok, spells_err}
 use Rattle.link_requests.proofs.Requests.{measured_fits, measured_large, measured_bad}
 use Rattle.link_requests.proofs.writing.measure_into.Goals as goal
 
