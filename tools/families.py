@@ -6,7 +6,7 @@ specs/Family.antt. The comment of the variant says whose attributes they are.
 
 What only repeats the list, `written` has: tools/made.py writes it. These are the constants of nlroute.h, which
 bindings/generate.py reads, the names in nlroute.1 and calls.c, the words for the families in three READMEs, headings of
-MODEL.md, the list of all in proofs/Families, and a proof with an equal part for each set. LISTS are parts of pages that are
+MODEL.md, the list of all in specs/Families, and a proof with an equal part for each set. LISTS are parts of pages that are
 written by hand. COVERED is what the runs have for each attribute set.
 """
 import os
@@ -162,7 +162,7 @@ WRITTEN = [
         lambda rows: f"{whose_lists(rows)} ([{len(rows)} families",
     ),
     ("crates/nlroute_ffi/examples/calls.c", r"(?<=^static const char \*const sets\[\] = \{\n)(?: .*\n)*", in_calls),
-    ("crates/netlink_packet_route/proofs/Families.antt", r"(?<=^all_families =\n)(?: .*\n)*", in_order),
+    ("crates/netlink_packet_route/specs/Families.antt", r"(?<=^all_families =\n)(?: .*\n)*", in_order),
     ("bindings/python/README.md", IN_BINDINGS, whose_lists),
     ("bindings/rust/README.md", IN_BINDINGS, whose_lists),
     (

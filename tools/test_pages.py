@@ -324,7 +324,7 @@ returns-in-{it}-clause-answer c = rw c.in-{it}.is c.rewrite_as{'' if it == 'Dsa'
 """ for it in ("Dsa", "Hsr", "Port", "Vlan", "All", "Part"))),
     "crates/nlroute_ffi/examples/calls.c": ("static const char *const sets[] = {\n    old\n};\n", "static const char *const sets[] = {\n" + "".join(
         f'    [NLROUTE_{it.upper()}] = "{it}",\n' for it in ("dsa", "hsr", "port", "vlan", "all", "part")) + "};\n"),
-    f"{ROUTE}/proofs/Families.antt": ("-- A\nall_families =\n    old\n\n-- B\n", "-- A\nall_families =\n" + " ∷\n".join(
+    f"{ROUTE}/specs/Families.antt": ("-- A\nall_families =\n    old\n\n-- B\n", "-- A\nall_families =\n" + " ∷\n".join(
         f"    sets.{it}" for it in ("Dsa", "Hsr", "Port", "Vlan", "All", "Part")) + " ∷ []\n\n-- B\n"),
     "docs/proofs/MODEL.md": ("### A: `InfoDsa`, `dsa_table`\n### B: `InfoVlan`, `vlan_table`\n### `InfoHsr`\n",
                              "### DSA ports: `InfoDsa`, `dsa_table`\n### `IFLA_VLAN` in AF_BRIDGE messages: `InfoVlan`, `vlan_table`\n### `InfoHsr`\n"),

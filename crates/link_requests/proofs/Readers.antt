@@ -9,7 +9,8 @@ use Rattle.netlink_packet_route.specs.declared.family.Family.TheVariants as sets
 use Rattle.netlink_packet_route.specs.declared.opening.Context.{Context}
 use Rattle.netlink_packet_route.specs.Family.{Holding, InfoKind, PortKind, BridgeAttribute, NestedBridgeAttribute, Inet6Attribute, Within, LinkMessage, ReplyMessage, family_number, holders_of, IsOneOf, IsReadBy}
 use Rattle.netlink_packet_route.specs.Opening.{holding_at, IsOpened}
-use Rattle.netlink_packet_route.proofs.Families.{all_families, each_family}
+use Rattle.netlink_packet_route.specs.Families.{all_families}
+use Rattle.netlink_packet_route.proofs.Families.{each_family}
 use Rattle.link_requests.specs.Opening.{kinds_of, holding_by, is_holding, holds_any, reader_in, reader_of, set_at}
 
 -- ---- one holding

@@ -7,7 +7,7 @@ use Rattle.netlink_packet_route.specs.declared.family.Family.TheVariants.{Link}
 use Rattle.netlink_packet_route.specs.declared.opening.Context.{Context}
 use Rattle.netlink_packet_route.specs.Family.{Holding, InfoKind, PortKind, BridgeAttribute, NestedBridgeAttribute, Inet6Attribute, Within, LinkMessage, ReplyMessage, family_number, holders_of}
 use Rattle.netlink_packet_route.specs.Opening.{message_holding, info_holding}
-use Rattle.netlink_packet_route.proofs.Families.{all_families}
+use Rattle.netlink_packet_route.specs.Families.{all_families}
 
 -- what decides it besides the value: the address family of the message, and the kinds beside the value, as a `Context` has them
 pub record Kinds : Type 0 where

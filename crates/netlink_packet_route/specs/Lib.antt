@@ -1,4 +1,5 @@
 pub mod Family
+pub mod Families
 pub mod Opening
 pub mod Rewrite
 pub mod HexText
