@@ -37,7 +37,7 @@ class Row(ctypes.Structure):
 
 SIGNATURES = {
     "nlroute_version": (c_uint32,),
-    "nlroute_row": (c_ssize_t, c_uint32, c_uint16, c_uint16, c_uint8, POINTER(Row)),
+    "nlroute_read_row": (c_ssize_t, c_uint32, c_uint16, c_uint16, c_uint8, POINTER(Row)),
     "nlroute_kind_of": (c_ssize_t, c_uint32, c_char_p, c_size_t),
     "nlroute_kind_of_in": (c_ssize_t, c_uint32, c_uint16, c_char_p, c_size_t),
     "nlroute_number_of": (c_ssize_t, c_uint32, POINTER(Value), c_char_p, c_size_t, POINTER(c_uint64)),
@@ -85,7 +85,7 @@ class Library:
     def row(self, family, kind, inner):
         """Returns the row of an attribute type, or of an element if there is an `inner`; None if the type has no elements."""
         row = Row()
-        code = self.c.nlroute_row(family, kind, inner or 0, inner is not None, byref(row))
+        code = self.c.nlroute_read_row(family, kind, inner or 0, inner is not None, byref(row))
         return None if code == BAD_ELEMENT else row
 
     def kind_of(self, family, kind, inner, name):

@@ -2,7 +2,7 @@
 
 `ask` makes it. Constants of the C API are read from its header; the rest is asked of the library:
 
-- nlroute_row() has the form of an attribute type, and the width of its numbers;
+- nlroute_read_row() has the form of an attribute type, and the width of its numbers;
 - names are those of nlroute_kind_name(), nlroute_number_name() and nlroute_flag_name(), and nlroute_kind_of(),
   nlroute_kind_of_in() and nlroute_number_of() have to find what has them;
 - nlroute_code_text() has the meanings of error codes.

@@ -92,7 +92,7 @@ static ptrdiff_t valuing(size_t room) {
         ptrdiff_t named = nlroute_kind_name(family, &values[i], words, sizeof words);
         ptrdiff_t size = nlroute_text(family, &values[i], list, len, words, sizeof words);
         if (named < 0 || size < 0) return NLROUTE_ABSENT;
-        ptrdiff_t told = nlroute_field(family, &values[i], 0, list, len, &(struct nlroute_field){0});
+        ptrdiff_t told = nlroute_read_field(family, &values[i], 0, list, len, &(struct nlroute_field){0});
         if (told && told != NLROUTE_ABSENT) return NLROUTE_BAD_FORM;
     }
     ptrdiff_t measured = nlroute_measure(family, values, (size_t)count, list, len, &at);
@@ -133,7 +133,7 @@ static ptrdiff_t requesting(size_t room) {
     if (size < 0) return size;
     ptrdiff_t less = nlroute_request(&head, values, count, list, len, again, (size_t)size - 1, &at);
     if (less != NLROUTE_NO_ROOM) return NLROUTE_BAD_FORM;
-    if (nlroute_message(again, (size_t)size, 0, &it) || (ptrdiff_t)it.next != size) return NLROUTE_ABSENT;
+    if (nlroute_read_message(again, (size_t)size, 0, &it) || (ptrdiff_t)it.next != size) return NLROUTE_ABSENT;
     if (nlroute_message_fault(again, (size_t)size, 0, &(struct nlroute_fault){0}) != NLROUTE_ABSENT) return NLROUTE_BAD_FORM;
     ptrdiff_t found = nlroute_held(again + it.list, it.length, it.address_family, count > 1 ? family : NLROUTE_AF_SPEC, &held);
     if (family != NLROUTE_LINK && (found || (count == 1 && held.length != len))) return NLROUTE_ABSENT;

@@ -3,8 +3,8 @@
 # named, in $NLROUTE_PREFIX, and uses each of its files as users do, without `rt` in PATH. Without both, it first installs
 # an unproved build in a temporary folder: four to five minutes more.
 #
-# It needs what release.sh needs, and cc. What needs pkg-config, venv, cargo, debhelper or lintian is skipped if that is
-# missing, and a line says so. It uses no network.
+# It needs what release.sh needs, and cc. What needs c++, pkg-config, venv, cargo, debhelper or lintian is skipped if that
+# is missing, and a line says so. It uses no network.
 #
 # Prints a line `ok ..` or `FAILED ..` for each check. The last line is 'N passed, M failed', and the status 0 only if
 # nothing failed.
@@ -111,6 +111,13 @@ first_in_c() {
     # shellcheck disable=SC2046
     cc -o "$room/first" crates/nlroute_ffi/examples/first.c $(flags)
     as_user LD_LIBRARY_PATH="$tree/lib" "$room/first" | is_first
+}
+
+# The structs of the headers, without the word `struct`.
+structs_in_cpp() {
+    # shellcheck disable=SC2046
+    c++ -std=c++11 -Wall -Wextra -Werror -o "$room/structs" crates/nlroute_ffi/examples/structs.cpp $(flags)
+    as_user LD_LIBRARY_PATH="$tree/lib" "$room/structs" | grep -qx 'high at 2: 65535'
 }
 
 # Prints the options for the compiler: those of pkg-config, if it is there.
@@ -247,6 +254,7 @@ check "the licences in each package" licences
 check "C: the program of docs/c.md" c_program
 check "C: the program of README.md" first_in_c
 check "C: the mark of a program" mark_of_program
+! has c++ c++ --version || check "C++: the structs" structs_in_cpp
 check "nlshow" shows "$tree/bin/nlshow"
 if has venv python3 -m venv "$room/env"; then
     check "Python: the wheel" python_package "" "$wheel"

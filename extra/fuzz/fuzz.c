@@ -120,7 +120,7 @@ static void texts(one *it) {
 /* What is asked of the type of a value that was read. */
 static void asked(one *it) {
     struct nlroute_row row;
-    must(nlroute_row(family, it->kind, it->inner, it->depth, &row) == 0, "a value has a row");
+    must(nlroute_read_row(family, it->kind, it->inner, it->depth, &row) == 0, "a value has a row");
     must(row.form == it->form && row.is_list == (it->form == NLROUTE_FORM_LIST), "of its form");
     char name[NLROUTE_TEXT_ROOM], text[NLROUTE_TEXT_ROOM];
     ptrdiff_t size = nlroute_kind_name(family, it, name, sizeof name);
@@ -147,7 +147,7 @@ static void fielded(one *it) {
     struct nlroute_field field;
     must(nlroute_text(family, it, bytes, len, text, sizeof text) >= 0, "a value has a text");
     for (size_t i = 0; i < len; i++) {
-        ptrdiff_t code = nlroute_field(family, it, i, bytes, len, &field);
+        ptrdiff_t code = nlroute_read_field(family, it, i, bytes, len, &field);
         must(code == 0 || code == NLROUTE_ABSENT, "a field, or there are no more");
         if (code) return;
         must(field.offset + field.length <= it->length, "a field is in its struct");

@@ -77,7 +77,7 @@ static void ask(void) {
         if (len <= 0) exit(1);
         at = reply_len;
         reply_len += (size_t)len;
-        for (; !nlroute_message(reply, reply_len, at, &message); at = message.next) {
+        for (; !nlroute_read_message(reply, reply_len, at, &message); at = message.next) {
             int32_t error = 0;
             if (message.type == NLMSG_ERROR) memcpy(&error, reply + message.list, sizeof error);
             if (error) printf("refused %d\n", -error);
@@ -116,7 +116,7 @@ static void print_link(int32_t index, bool in_bridge) {
     if (in_bridge) made.head.address_family = AF_BRIDGE;
     if (in_bridge) add_one(nlroute_of_message(nlroute_number(NLROUTE_IFLA_EXT_MASK, RTEXT_FILTER_BRVLAN)));
     ask();
-    for (size_t at = 0; !nlroute_message(reply, reply_len, at, &message); at = message.next) {
+    for (size_t at = 0; !nlroute_read_message(reply, reply_len, at, &message); at = message.next) {
         if (message.type != RTM_NEWLINK || message.index != index) continue;
         printf("index %d\n", index);
         print_lists(NLROUTE_LINK, message.address_family, reply + message.list, message.length);
@@ -151,7 +151,7 @@ static void add_option(const char *name, char *text) {
     ptrdiff_t found = nlroute_kind_of(made.family, name, strlen(name));
     uint16_t kind = (uint16_t)found;
     struct nlroute_row row = {0};
-    if (found < 0 || nlroute_row(made.family, kind, 0, 0, &row)) exit(1);
+    if (found < 0 || nlroute_read_row(made.family, kind, 0, 0, &row)) exit(1);
     struct nlroute_value values[] = {nlroute_number(kind, 0), nlroute_element(kind, nlroute_number(1, 0))};
     if (row.is_list) values[1] = nlroute_element(kind, value_of(values[1], 1, strtok(text, "[]")));
     else values[0] = row.form == NLROUTE_FORM_PEER ? peer(kind, text) : value_of(values[0], kind, text);

@@ -23,10 +23,10 @@ SIGNATURES: dict[str, list[Any]] = {
     "nlroute_fault_text": [FAMILY, BYTES, OUT, SIZE],
     "nlroute_kind_name": [FAMILY, BYTES, OUT, SIZE],
     "nlroute_text": [FAMILY, BYTES, BYTES, SIZE, OUT, SIZE],
-    "nlroute_field": [FAMILY, BYTES, SIZE, BYTES, SIZE, OUT],
+    "nlroute_read_field": [FAMILY, BYTES, SIZE, BYTES, SIZE, OUT],
     "nlroute_write": [FAMILY, BYTES, SIZE, BYTES, SIZE, OUT, SIZE],
     "nlroute_measure": [FAMILY, BYTES, SIZE, BYTES, SIZE, OUT],
-    "nlroute_message": [BYTES, SIZE, SIZE, OUT],
+    "nlroute_read_message": [BYTES, SIZE, SIZE, OUT],
     "nlroute_message_fault": [BYTES, SIZE, SIZE, OUT],
     "nlroute_held": [BYTES, SIZE, BYTE, FAMILY, OUT],
     "nlroute_opens": [FAMILY, BYTE, BYTES, BYTES, SIZE],
@@ -105,7 +105,7 @@ def fault(family: Family, data: bytes) -> Fault:
 def message(data: bytes, at: int) -> MessageRecord | None:
     """Returns the message at an offset of a buffer, or None at its end. Raises MessageFault."""
     out = buffer(MESSAGE.size)
-    code = LIBRARY.nlroute_message(data, len(data), at, out)
+    code = LIBRARY.nlroute_read_message(data, len(data), at, out)
     if code == Code.ABSENT:
         return None
     if code:
@@ -174,7 +174,7 @@ def fields(family: Family, raw: bytes, data: bytes) -> Iterator[FieldRecord]:
     """Yields the fields of the struct that a record of a list holds; none if it holds no struct."""
     out = buffer(FIELD.size)
     for index in range(len(data)):
-        code = LIBRARY.nlroute_field(family, raw, index, data, len(data), out)
+        code = LIBRARY.nlroute_read_field(family, raw, index, data, len(data), out)
         if code == Code.ABSENT:
             return
         if code:

@@ -125,7 +125,7 @@ extern "C" {
         len: usize,
         limits: *mut CanBitTimingConst,
     ) -> isize;
-    fn nlroute_field(
+    fn nlroute_read_field(
         family: u32,
         value: *const Raw,
         index: usize,
@@ -133,7 +133,7 @@ extern "C" {
         len: usize,
         field: *mut RawField,
     ) -> isize;
-    fn nlroute_message(bytes: *const u8, len: usize, at: usize, message: *mut RawMessage) -> isize;
+    fn nlroute_read_message(bytes: *const u8, len: usize, at: usize, message: *mut RawMessage) -> isize;
     fn nlroute_message_fault(bytes: *const u8, len: usize, at: usize, fault: *mut RawFault) -> isize;
     fn nlroute_held(list: *const u8, len: usize, address_family: u8, family: u32, held: *mut RawRange) -> isize;
     fn nlroute_opens(family: u32, address_family: u8, value: *const Raw, list: *const u8, len: usize) -> isize;
@@ -247,7 +247,7 @@ fn first_fault(family: u32, bytes: &[u8]) -> RawFault {
 pub fn message(bytes: &[u8], at: usize) -> Result<Option<RawMessage>, RawFault> {
     let mut message = RawMessage::default();
     // SAFETY: the input is a slice; the output is a local variable.
-    match unsafe { nlroute_message(bytes.as_ptr(), bytes.len(), at, &mut message) } {
+    match unsafe { nlroute_read_message(bytes.as_ptr(), bytes.len(), at, &mut message) } {
         0 => Ok(Some(message)),
         refusal::ABSENT => Ok(None),
         _ => Err(message_fault(bytes, at)),
@@ -298,7 +298,7 @@ pub fn can_bittiming_const(value: &Raw, bytes: &[u8]) -> Option<CanBitTimingCons
 pub fn field(family: u32, value: &Raw, index: usize, octets: &[u8]) -> Option<RawField> {
     let mut field = RawField::default();
     // SAFETY: the inputs are a reference and a slice; the output is a local variable.
-    let code = unsafe { nlroute_field(family, value, index, octets.as_ptr(), octets.len(), &mut field) };
+    let code = unsafe { nlroute_read_field(family, value, index, octets.as_ptr(), octets.len(), &mut field) };
     (code == 0).then_some(field)
 }
 

@@ -196,9 +196,9 @@ static void values(void) {
     check(v[1].number == 0x8000, "its priority");
     check(v[1].offset == 12 && v[1].length == 8 && !memcmp(v[1].octets, address, 16), "its address");
     struct nlroute_field field;
-    check(!nlroute_field(NLROUTE_BRIDGE, v + 1, 0, bridge, sizeof bridge, &field), "a field of the bridge ID");
+    check(!nlroute_read_field(NLROUTE_BRIDGE, v + 1, 0, bridge, sizeof bridge, &field), "a field of the bridge ID");
     check(!strcmp(field.name, "prio") && field.number == 0x8000 && field.form == NLROUTE_FORM_UNSIGNED, "the priority");
-    check(!nlroute_field(NLROUTE_BRIDGE, v + 1, 1, bridge, sizeof bridge, &field), "another");
+    check(!nlroute_read_field(NLROUTE_BRIDGE, v + 1, 1, bridge, sizeof bridge, &field), "another");
     check(!strcmp(field.name, "addr") && field.offset == 2 && field.form == NLROUTE_FORM_MAC, "the address");
     check(field.length == 6 && !memcmp(field.octets, address, 16) && field.number == 0, "its octets");
     check(v[2].kind == 47 && v[2].form == NLROUTE_FORM_LIST && v[2].number == 1, "a list of one element");
@@ -270,13 +270,13 @@ static void timing(void) {
     check(nlroute_can_bittiming(v + 1, can, sizeof can, &bits) == NLROUTE_BAD_FORM, "-7 for limits");
     struct nlroute_field field;
     size_t count = 0;
-    for (; !nlroute_field(NLROUTE_CAN, v, count, can, sizeof can, &field); count++)
+    for (; !nlroute_read_field(NLROUTE_CAN, v, count, can, sizeof can, &field); count++)
         check(field.number == rates[count] && field.offset == 4 * count && field.length == 4, field.name);
     check(count == 8 && !strcmp(field.name, "brp") && field.form == NLROUTE_FORM_UNSIGNED, "eight fields by name");
-    check(nlroute_field(NLROUTE_CAN, v, count, can, sizeof can, &field) == NLROUTE_ABSENT, "-6 for a ninth");
-    check(nlroute_field(NLROUTE_CAN, v + 1, 0, can, sizeof can, &field) == NLROUTE_ABSENT, "-6 for limits");
-    check(nlroute_field(NLROUTE_CAN, v, 8, can, 35, &field) == NLROUTE_BAD_OCTETS, "-10 of a field");
-    check(nlroute_field(FAMILIES, v, 0, can, sizeof can, &field) == NLROUTE_NO_FAMILY, "-5 of a field");
+    check(nlroute_read_field(NLROUTE_CAN, v, count, can, sizeof can, &field) == NLROUTE_ABSENT, "-6 for a ninth");
+    check(nlroute_read_field(NLROUTE_CAN, v + 1, 0, can, sizeof can, &field) == NLROUTE_ABSENT, "-6 for limits");
+    check(nlroute_read_field(NLROUTE_CAN, v, 8, can, 35, &field) == NLROUTE_BAD_OCTETS, "-10 of a field");
+    check(nlroute_read_field(FAMILIES, v, 0, can, sizeof can, &field) == NLROUTE_NO_FAMILY, "-5 of a field");
     check(nlroute_can_bittiming(v, can, 35, &bits) == NLROUTE_BAD_OCTETS, "-10 for bytes that are cut off");
     check(!strcmp(nlroute_refusal_text(NLROUTE_BAD_FORM), "the value has another form"), "a code in words");
     check(!strcmp(nlroute_refusal_text(NLROUTE_ABSENT), "there is no such attribute, element, field, name or error"), "absent");
@@ -350,7 +350,7 @@ static void asking(void) {
         check(len > 0 && nlroute_family_of(name, (size_t)len) == family, "a set has a name");
         for (uint32_t kind = 0; kind < 1 << 14; kind++) {
             type = nlroute_number((uint16_t)kind, 0);
-            if (nlroute_row(family, type.kind, 0, 0, &row) || row.form == NLROUTE_FORM_UNKNOWN) continue;
+            if (nlroute_read_row(family, type.kind, 0, 0, &row) || row.form == NLROUTE_FORM_UNKNOWN) continue;
             known++;
             len = nlroute_kind_name(family, &type, name, sizeof name);
             told += nlroute_kind_of(family, name, (size_t)len) == (ptrdiff_t)kind;
@@ -362,14 +362,14 @@ static void asking(void) {
           "devices and ports of a kind have different sets");
     check(nlroute_from_info_kind("bond_port", 9) == NLROUTE_NO_FAMILY, "the name of a set is not a kind");
     check(nlroute_kind_of(NLROUTE_BOND, "IFLA_BOND", 9) == NLROUTE_ABSENT, "-6 for the name of no type");
-    check(!nlroute_row(NLROUTE_BOND, NLROUTE_IFLA_BOND_MODE, 0, 0, &row), "a type has a row");
+    check(!nlroute_read_row(NLROUTE_BOND, NLROUTE_IFLA_BOND_MODE, 0, 0, &row), "a type has a row");
     check(row.form == NLROUTE_FORM_NAMED && row.width == 1 && !row.is_list && row.flags == 0, "the row of an enum");
-    check(!nlroute_row(NLROUTE_BOND, NLROUTE_IFLA_BOND_ARP_IP_TARGET, 3, 1, &row), "an address has a row");
+    check(!nlroute_read_row(NLROUTE_BOND, NLROUTE_IFLA_BOND_ARP_IP_TARGET, 3, 1, &row), "an address has a row");
     check(row.form == NLROUTE_FORM_IPV4 && row.width == 4, "the row of an address");
     struct nlroute_row list;
-    check(!nlroute_row(NLROUTE_BRIDGE, NLROUTE_IFLA_BR_MCAST_QUERIER_STATE, 0, 0, &list), "a list has a row");
+    check(!nlroute_read_row(NLROUTE_BRIDGE, NLROUTE_IFLA_BR_MCAST_QUERIER_STATE, 0, 0, &list), "a list has a row");
     check(list.width == 0 && list.flags == 0x8000 && list.form == NLROUTE_FORM_LIST && list.is_list == 1, "its numbers");
-    ptrdiff_t no_element = nlroute_row(NLROUTE_BOND, NLROUTE_IFLA_BOND_MODE, 0, 1, &row);
+    ptrdiff_t no_element = nlroute_read_row(NLROUTE_BOND, NLROUTE_IFLA_BOND_MODE, 0, 1, &row);
     check(no_element == NLROUTE_BAD_ELEMENT && row.width == 4, "-9 for an element of a number");
     check(nlroute_kind_of_in(NLROUTE_BOND, NLROUTE_IFLA_BOND_AD_INFO, "IFLA_BOND_AD_INFO_NUM_PORTS", 27) == 2, "an element");
     type = nlroute_number(NLROUTE_IFLA_BOND_MODE, 0);
@@ -553,7 +553,8 @@ static void messages(void) {
     memset(&none, 0xFF, sizeof none);
     check(sizeof link == 56 && sizeof(struct nlroute_range) == 16, "the structs have no padding");
     memory_is_out = true;
-    ptrdiff_t first = nlroute_message(dump, sizeof dump, 0, &link), second = nlroute_message(dump, sizeof dump, 64, &done);
+    ptrdiff_t first = nlroute_read_message(dump, sizeof dump, 0, &link);
+    ptrdiff_t second = nlroute_read_message(dump, sizeof dump, 64, &done);
     memory_is_out = false;
     check(!first && link.list == 32 && link.length == 32 && link.next == 64 && link.len == 64, "a message, and the next");
     check(link.type == 16 && link.flags == 2 && link.sequence == 5 && link.port == 7, "its struct nlmsghdr");
@@ -566,12 +567,12 @@ static void messages(void) {
     memcpy(property, dump, sizeof property);
     for (property[4] = 104; property[4] < 112; property[4]++) {
         bool is_property = property[4] >= 108 && property[4] <= 110;
-        check(!nlroute_message(property, 64, 0, &link) && link.type == property[4] && link.is_link == is_property, "a type");
+        check(!nlroute_read_message(property, 64, 0, &link) && link.type == property[4] && link.is_link == is_property, "a type");
         check(link.index == (is_property ? 9 : 0) && link.list == (is_property ? 32 : 16), "its header");
     }
-    check(nlroute_message(dump, sizeof dump, 82, &none) == NLROUTE_ABSENT, "-6 at the end");
-    check(nlroute_message(dump, sizeof dump, SIZE_MAX, &none) == NLROUTE_ABSENT, "-6 after the end");
-    check(nlroute_message(dump, 63, 0, &none) == NLROUTE_HAS_FAULT, "-1 of a message that is cut off");
+    check(nlroute_read_message(dump, sizeof dump, 82, &none) == NLROUTE_ABSENT, "-6 at the end");
+    check(nlroute_read_message(dump, sizeof dump, SIZE_MAX, &none) == NLROUTE_ABSENT, "-6 after the end");
+    check(nlroute_read_message(dump, 63, 0, &none) == NLROUTE_HAS_FAULT, "-1 of a message that is cut off");
     check(are_lent(&none, sizeof none), "no message was stored");
 }
 

@@ -62,7 +62,7 @@ static void print_link(const uint8_t *list, const struct nlroute_message *messag
 /* Prints the links of the messages in a buffer. Returns whether more messages follow. */
 static bool print_links(const uint8_t *buffer, size_t len) {
     struct nlroute_message message;
-    for (size_t at = 0; !nlroute_message(buffer, len, at, &message); at = message.next) {
+    for (size_t at = 0; !nlroute_read_message(buffer, len, at, &message); at = message.next) {
         if (message.type == NLMSG_DONE || message.type == NLMSG_ERROR) return false;
         if (message.type == RTM_NEWLINK) print_link(buffer + message.list, &message);
     }

@@ -63,7 +63,7 @@ static struct nlroute_value made(int way, size_t choice, uint16_t kind, uint8_t 
 
 /* The row of a type or element. Returns whether the set knows it. */
 static bool is_known(uint32_t set, uint16_t kind, uint16_t inner, uint8_t depth, struct nlroute_row *row) {
-    return !nlroute_row(set, kind, inner, depth, row) && row->form != NLROUTE_FORM_UNKNOWN;
+    return !nlroute_read_row(set, kind, inner, depth, row) && row->form != NLROUTE_FORM_UNKNOWN;
 }
 
 /* Writes values as a list of their set; those that have bytes of their own, with these bytes among the octets. */
@@ -306,7 +306,7 @@ static void unknown_types(void) {
     const struct bytes lent = {octets, sizeof octets};
     uint8_t out[ROOM];
     size_t at, right = 0, written = 0;
-    for (uint32_t set = 0; !nlroute_row(set, 0, 0, 0, &row); set++) {
+    for (uint32_t set = 0; !nlroute_read_row(set, 0, 0, 0, &row); set++) {
         for (uint16_t kind = 0; set != NLROUTE_LINK && kind < 100; kind++) {
             const struct nlroute_value it = nlroute_passed(kind, NLROUTE_FORM_UNKNOWN, 0, 4);
             if (is_known(set, kind, 0, 0, &row)) continue;
@@ -622,11 +622,11 @@ static void values_that_were_read(const uint8_t *bytes, size_t len, ptrdiff_t wa
     struct nlroute_value values[64];
     uint8_t out[ROOM];
     size_t at = 0;
-    check(!nlroute_message(bytes, len, 0, &it) && it.is_link && it.len == len, "a message");
+    check(!nlroute_read_message(bytes, len, 0, &it) && it.is_link && it.len == len, "a message");
     const uint8_t *list = bytes + it.list;
     ptrdiff_t count = nlroute_values(NLROUTE_LINK, list, it.length, values, 64);
     check(count == wanted, "its values");
-    struct nlroute_head head = nlroute_head(it.type, it.flags, it.index);
+    struct nlroute_head head = nlroute_make_head(it.type, it.flags, it.index);
     head.sequence = it.sequence, head.port = it.port, head.address_family = it.address_family;
     head.link_type = it.link_type, head.link_flags = it.link_flags, head.change = it.change;
     ptrdiff_t length = nlroute_request(&head, values, (size_t)count, list, it.length, out, sizeof out, &at);

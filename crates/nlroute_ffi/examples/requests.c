@@ -190,7 +190,7 @@ static void refused_requests(void) {
     check_refused(&it, NLROUTE_BAD_NAME, 0, "a name with a blank");
     delete_link(&it, 0);
     check_refused(&it, NLROUTE_NO_INDEX, 0, "no index");
-    write_values(&it, nlroute_head(20, 4, 1), NLROUTE_NO_VALUES);
+    write_values(&it, nlroute_make_head(20, 4, 1), NLROUTE_NO_VALUES);
     check_refused(&it, NLROUTE_BAD_TYPE, 0, "another type");
     const struct nlroute_value number = nlroute_number(NLROUTE_IFLA_BOND_MODE, 4);
     const struct nlroute_value bond[] = {NLROUTE_DATA("bond"), number};

@@ -1,6 +1,6 @@
 #!/bin/sh
-# Builds and runs the examples in C and in Rust with the static library, using cc and rustc, and compiles the headers as C99,
-# C11 and C++11 with gcc and clang, if they are there. Not part of CI.
+# Builds and runs the examples in C, in Rust and, if there is a c++, in C++ with the static library, using cc and rustc, and
+# compiles the headers as C99, C11 and C++11 with gcc and clang, if they are there. Not part of CI.
 # The library is out/libnlroute_ffi.a, as `rt lib` leaves it in this crate; with none there, `rt lib` is run first.
 # If there is a valgrind, it watches the examples that do not initialize what the library writes to.
 # The last line is 'N passed, M failed', and the status 0 only if nothing failed.
@@ -27,6 +27,12 @@ compile() {
     name=$1
     shift
     counted cc -std=c11 -Wall -Wextra -Werror -O2 -I include "$@" -o "$room/$name" "examples/$name.c" "$library" \
+        "$kit/c/libos_c.a" "$kit/c/liblibc_c.a"
+}
+
+# Compiles an example in C++.
+compile_cpp() {
+    counted c++ -std=c++11 -Wall -Wextra -Werror -Wold-style-cast -O2 -I include -o "$room/$1" "examples/$1.cpp" "$library" \
         "$kit/c/libos_c.a" "$kit/c/liblibc_c.a"
 }
 
@@ -105,6 +111,14 @@ IFLA_LINKINFO
     IFLA_BR_HELLO_TIME 100 (1.00 s)
     IFLA_BR_GROUP_ADDR 01:80:c2:00:00:04
 END
+if command -v c++ >/dev/null; then
+    compile_cpp structs
+    prints structs "the fields of a struct are printed in C++" <<'END'
+a struct of 4 bytes
+low at 0: 32768
+high at 2: 65535
+END
+fi
 compile links
 if $watch "$room/links" >"$room/printed" && grep -q '^1: lo$' "$room/printed"; then
     echo "ok the links of this machine are printed"

@@ -48,7 +48,7 @@ static void print_list(FILE *to, uint32_t family, const uint8_t *list, size_t le
 static void print_bonds(FILE *to, const uint8_t *bytes, size_t len) {
     struct nlroute_message message;
     struct nlroute_range bond;
-    for (size_t at = 0; nlroute_message(bytes, len, at, &message) == 0; at = message.next) {
+    for (size_t at = 0; nlroute_read_message(bytes, len, at, &message) == 0; at = message.next) {
         const uint8_t *list = bytes + message.list;
         if (message.type == RTM_NEWLINK
             && nlroute_held(list, message.length, message.address_family, NLROUTE_BOND, &bond) == 0)

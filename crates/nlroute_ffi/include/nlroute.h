@@ -25,7 +25,8 @@
  * threads may call the functions at the same time.
  *
  * nlroute_kinds.h has the attribute types by the kernel's names, and nlroute_requests.h writes requests. The headers are
- * C99, and C++11 or later.
+ * C99, and C++11 or later. No function has the name of a struct: nlroute_read_message() stores a struct nlroute_message,
+ * and nlroute_make_head() returns a struct nlroute_head. So C++ needs no `struct`, as in `nlroute_message message;`.
  *
  * Compile with pkg-config, once the library is installed:
  * cc main.c $(pkg-config --cflags --libs nlroute)
@@ -356,8 +357,8 @@ struct nlroute_field {
  * NLROUTE_ABSENT if and only if the struct has at most `index` fields, or the values of the type are no such structs.
  */
 NLROUTE_MUST_USE
-ptrdiff_t nlroute_field(uint32_t family, const struct nlroute_value *value, size_t index, const uint8_t *octets,
-                        size_t len, struct nlroute_field *field);
+ptrdiff_t nlroute_read_field(uint32_t family, const struct nlroute_value *value, size_t index, const uint8_t *octets,
+                             size_t len, struct nlroute_field *field);
 
 /*
  * Values for nlroute_write(). Each of these has NLROUTE_FORM_OF_KIND, so the attribute type determines the form; set form
@@ -567,7 +568,7 @@ struct nlroute_row {
  * then unchanged.
  */
 NLROUTE_MUST_USE
-ptrdiff_t nlroute_row(uint32_t family, uint16_t kind, uint16_t inner, uint8_t depth, struct nlroute_row *row);
+ptrdiff_t nlroute_read_row(uint32_t family, uint16_t kind, uint16_t inner, uint8_t depth, struct nlroute_row *row);
 
 /*
  * Returns the attribute type that has a name, such as "IFLA_BR_FORWARD_DELAY", the lowest if there are several;
@@ -713,12 +714,12 @@ struct nlroute_message {
  *   rounded up to a multiple of four.
  */
 NLROUTE_MUST_USE
-ptrdiff_t nlroute_message(const uint8_t *bytes, size_t len, size_t at, struct nlroute_message *message);
+ptrdiff_t nlroute_read_message(const uint8_t *bytes, size_t len, size_t at, struct nlroute_message *message);
 
 /*
- * Stores in *fault why nlroute_message() returns NLROUTE_HAS_FAULT, and returns 0. at is that of the message.
+ * Stores in *fault why nlroute_read_message() returns NLROUTE_HAS_FAULT, and returns 0. at is that of the message.
  *
- * Returns NLROUTE_ABSENT if and only if nlroute_message() does not return NLROUTE_HAS_FAULT; *fault is then unchanged.
+ * Returns NLROUTE_ABSENT if and only if nlroute_read_message() does not return NLROUTE_HAS_FAULT; *fault is then unchanged.
  */
 NLROUTE_MUST_USE
 ptrdiff_t nlroute_message_fault(const uint8_t *bytes, size_t len, size_t at, struct nlroute_fault *fault);

@@ -33,7 +33,7 @@ struct nlroute_head {
 /* Heads. Fields that a function does not name are 0, so set sequence yourself. */
 
 /* Any request. */
-static inline struct nlroute_head nlroute_head(uint16_t type, uint16_t flags, int32_t index)
+static inline struct nlroute_head nlroute_make_head(uint16_t type, uint16_t flags, int32_t index)
 {
     struct nlroute_head head;
     memset(&head, 0, sizeof head);
@@ -46,37 +46,37 @@ static inline struct nlroute_head nlroute_head(uint16_t type, uint16_t flags, in
 /* Makes a link: RTM_NEWLINK with NLM_F_ACK, NLM_F_CREATE and NLM_F_EXCL. */
 static inline struct nlroute_head nlroute_create(void)
 {
-    return nlroute_head(16, 0x604, 0);
+    return nlroute_make_head(16, 0x604, 0);
 }
 
 /* Changes the link with this index: RTM_NEWLINK with NLM_F_ACK. An IFLA_IFNAME renames it. */
 static inline struct nlroute_head nlroute_change(int32_t index)
 {
-    return nlroute_head(16, 4, index);
+    return nlroute_make_head(16, 4, index);
 }
 
 /* Deletes the link with this index: RTM_DELLINK with NLM_F_ACK. */
 static inline struct nlroute_head nlroute_delete(int32_t index)
 {
-    return nlroute_head(17, 4, index);
+    return nlroute_make_head(17, 4, index);
 }
 
 /* Asks for one link, by its index or, if that is 0, by an IFLA_IFNAME: RTM_GETLINK. */
 static inline struct nlroute_head nlroute_get(int32_t index)
 {
-    return nlroute_head(18, 0, index);
+    return nlroute_make_head(18, 0, index);
 }
 
 /* Asks for all links: RTM_GETLINK with NLM_F_DUMP. */
 static inline struct nlroute_head nlroute_dump(void)
 {
-    return nlroute_head(18, 0x300, 0);
+    return nlroute_make_head(18, 0x300, 0);
 }
 
 /* Sets VLANs and port options of the bridge or bridge port with this index: RTM_SETLINK with NLM_F_ACK, of AF_BRIDGE. */
 static inline struct nlroute_head nlroute_bridge_set(int32_t index)
 {
-    struct nlroute_head head = nlroute_head(19, 4, index);
+    struct nlroute_head head = nlroute_make_head(19, 4, index);
     head.address_family = 7;
     return head;
 }
@@ -84,7 +84,7 @@ static inline struct nlroute_head nlroute_bridge_set(int32_t index)
 /* Deletes VLANs of it: RTM_DELLINK with NLM_F_ACK, of AF_BRIDGE. The link stays. */
 static inline struct nlroute_head nlroute_bridge_delete(int32_t index)
 {
-    struct nlroute_head head = nlroute_head(17, 4, index);
+    struct nlroute_head head = nlroute_make_head(17, 4, index);
     head.address_family = 7;
     return head;
 }
@@ -95,11 +95,11 @@ static inline struct nlroute_head nlroute_bridge_delete(int32_t index)
  */
 static inline struct nlroute_head nlroute_property(int32_t index)
 {
-    return nlroute_head(108, 0xE04, index);
+    return nlroute_make_head(108, 0xE04, index);
 }
 static inline struct nlroute_head nlroute_property_delete(int32_t index)
 {
-    return nlroute_head(109, 4, index);
+    return nlroute_make_head(109, 4, index);
 }
 
 /* Returns the head for a link that is to be up or down: IFF_UP, in link_flags and in change. */

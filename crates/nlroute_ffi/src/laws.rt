@@ -94,8 +94,8 @@ pub fn opened_values()
         → (flat : Flat (table_of family) list es) → AllZip (TailOpens context family list) flat.items flat.groups }
 {}
 
-/// States that `nlroute_message_fault` finds an error if and only if `nlroute_message` returns -1: what is at an offset of a
-/// buffer is not both well-formed and malformed.
+/// States that `nlroute_message_fault` finds an error if and only if `nlroute_read_message` returns -1: what is at an offset of
+/// a buffer is not both well-formed and malformed.
 pub fn one_message()
     ensures { (at : ℕ) (r : List ℕ) (found : Option FoundMessage) (e : MessageError) → ReadsMessage at r (Ok found)
         → ReadsMessage at r (Err e) → ⊥ }
@@ -165,8 +165,8 @@ pub fn rows_of_fields()
         → slice_get (shown_fields label) i ≡ Some f → (field_form f.form ≡ form_in (row_fields f.form)) × (length f.name < 32) }
 {}
 
-/// States that the text of a struct names the fields that `nlroute_field` stores, in their order, each with what its bytes
-/// hold; but for the ID of a bridge, whose text has no names.
+/// States that the text of a struct names the fields that `nlroute_read_field` stores, in their order, each with what its
+/// bytes hold; but for the ID of a bridge, whose text has no names.
 pub fn fields_in_texts()
     ensures { (family : Family) (e : Entry) (octets words : List ℕ) (label : Label) (i : ℕ) (f : FieldRow) → length e.octets ≡ 16
         → own_label family e ≡ Ok (Some label) → is_named label.form ≡ true → slice_get label.fields i ≡ Some f

@@ -266,7 +266,7 @@ pub extern "C" fn nlroute_can_bittiming_const(
 ///
 /// As for `nlroute_text`. Then -6 if the attribute type has no struct, or the struct fewer fields.
 #[unsafe(no_mangle)]
-pub extern "C" fn nlroute_field(
+pub extern "C" fn nlroute_read_field(
     family: u32,
     value: &Entry,
     index: usize,
@@ -473,7 +473,13 @@ pub extern "C" fn nlroute_kind_of_in(family: u32, list: u16, name: &[u8]) -> isi
 ///
 /// -9 if values of the type have no elements, or `depth` is greater than 1.
 #[unsafe(no_mangle)]
-pub extern "C" fn nlroute_row(family: u32, kind: u16, inner: u16, depth: u8, row: &mut Row) -> isize
+pub extern "C" fn nlroute_read_row(
+    family: u32,
+    kind: u16,
+    inner: u16,
+    depth: u8,
+    row: &mut Row,
+) -> isize
     ensures answer { AnswersBy family (RowAnswers kind inner depth row.new) result }
     ensures unchanged { result <ℤ pos 0 → row.new ≡ row.old }
 {
@@ -552,7 +558,7 @@ pub extern "C" fn nlroute_first_fault(family: u32, bytes: &[u8], error: &mut Fir
 ///
 /// -6 at the end of the buffer, -1 if the message is malformed, or too short for one about a link.
 #[unsafe(no_mangle)]
-pub extern "C" fn nlroute_message(bytes: &[u8], at: usize, message: &mut FoundMessage) -> isize
+pub extern "C" fn nlroute_read_message(bytes: &[u8], at: usize, message: &mut FoundMessage) -> isize
     ensures answer { AnswersWith (MessageAnswers at (drop at bytes.now) message.new) result }
     ensures unchanged { result <ℤ pos 0 → message.new ≡ message.old }
 {

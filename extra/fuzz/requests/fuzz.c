@@ -84,7 +84,7 @@ static bool names_form(const struct nlroute_row *row) {
 /* The row of an attribute of the message. */
 static struct nlroute_row row_of(uint16_t kind) {
     struct nlroute_row row = {0};
-    must(!nlroute_row(NLROUTE_LINK, kind, 0, 0, &row), "an attribute has a row");
+    must(!nlroute_read_row(NLROUTE_LINK, kind, 0, 0, &row), "an attribute has a row");
     return row;
 }
 
@@ -140,8 +140,8 @@ static void flatten(uint32_t set, size_t from, size_t size, size_t depth) {
 /* The head and the values of a message. Returns whether it is one about a link whose lists decode. */
 static bool of_message(void) {
     struct nlroute_message it;
-    if (nlroute_message(octets, len, 0, &it) || !it.is_link) return false;
-    head = nlroute_head(it.type, it.flags, it.index);
+    if (nlroute_read_message(octets, len, 0, &it) || !it.is_link) return false;
+    head = nlroute_make_head(it.type, it.flags, it.index);
     head.sequence = it.sequence, head.port = it.port, head.address_family = it.address_family;
     head.link_type = it.link_type, head.link_flags = it.link_flags, head.change = it.change;
     flatten(NLROUTE_LINK, (size_t)it.list, (size_t)it.length, 0);
@@ -173,7 +173,7 @@ static struct nlroute_value fitting(const struct level *in, struct nlroute_row *
     uint16_t kind = byte() % 80;
     struct nlroute_value it = nlroute_number(in->has_elements ? in->list : kind, 0);
     it.inner = in->has_elements ? kind : 0;
-    if (nlroute_row(in->set, it.kind, it.inner, in->has_elements, row)) row->form = 0, row->is_list = 0, row->width = 0;
+    if (nlroute_read_row(in->set, it.kind, it.inner, in->has_elements, row)) row->form = 0, row->is_list = 0, row->width = 0;
     it.form = row->form, it.number = byte() % 4 ? byte() & 1 : word(), it.second = byte() % 2;
     bool is_struct = row->width > 8 || (row->form == NLROUTE_FORM_BYTES && row->width);
     it.offset = row->width > 8 ? byte() : taken, it.length = is_struct ? row->width : byte() % 32;
@@ -192,7 +192,7 @@ static void of_description(void) {
     static const uint32_t types[] = {16, 16, 17, 18, 19, 108, 109}, flags[] = {0x604, 4, 0, 0x300, 0xE04};
     static const uint32_t indices[] = {3, 3, 0, ~0u}, sets[] = {0, 0, 7};
     struct level levels[LEVELS] = {{NLROUTE_LINK, 0, false}}, data = {0};
-    head = nlroute_head((uint16_t)one_of(types, 7), (uint16_t)one_of(flags, 5), (int32_t)one_of(indices, 4));
+    head = nlroute_make_head((uint16_t)one_of(types, 7), (uint16_t)one_of(flags, 5), (int32_t)one_of(indices, 4));
     head.address_family = (uint8_t)one_of(sets, 3), head.sequence = word(), head.port = word(), head.change = word();
     for (size_t depth = 0; taken < len && fits;) {
         struct level *in = &levels[depth], next = {in->set, 0, false};
@@ -253,7 +253,7 @@ static void same(uint32_t set, const struct nlroute_value *it, const struct nlro
     struct nlroute_row row;
     uint8_t form = is_protinfo(set, it) && of->form == NLROUTE_FORM_HELD ? NLROUTE_FORM_HELD : it->form;
     /* Addresses and numbers of arrays have the index that follows from their order; their row is that of any index. */
-    bool has_index = it->depth && !nlroute_row(set, it->kind, 0x3FFF, 1, &row) && row.form != NLROUTE_FORM_UNKNOWN;
+    bool has_index = it->depth && !nlroute_read_row(set, it->kind, 0x3FFF, 1, &row) && row.form != NLROUTE_FORM_UNKNOWN;
     must(it->kind == of->kind && (has_index || !it->depth || it->inner == of->inner), "a value has its type");
     must(form == of->form || of->form == NLROUTE_FORM_OF_KIND, "and its form");
     bool has_number = (form >= NLROUTE_FORM_BOOL && form <= NLROUTE_FORM_MASKED)
@@ -311,7 +311,7 @@ static size_t compared(uint32_t set, const uint8_t *list, size_t size, size_t i,
 /* What was written: a message of the head, with the values. */
 static void read_back(const uint8_t *out, size_t size) {
     struct nlroute_message it;
-    must(nlroute_message(out, size, 0, &it) == 0 && it.len == size && it.next == size, "a request is one message");
+    must(nlroute_read_message(out, size, 0, &it) == 0 && it.len == size && it.next == size, "a request is one message");
     must(it.type == head.type && it.flags == (head.flags | 1), "of the type and the flags of the head");
     must(it.sequence == head.sequence && it.port == head.port, "and of its numbers");
     must(it.is_link && it.index == head.index && it.link_flags == head.link_flags && it.change == head.change, "of this link");

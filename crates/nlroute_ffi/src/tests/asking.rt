@@ -3,8 +3,8 @@
 use crate::tests::{BLANK, holds_text};
 use crate::{
     nlroute_code_text, nlroute_family_name, nlroute_family_of, nlroute_from_info_kind,
-    nlroute_from_port_kind, nlroute_kind_of, nlroute_kind_of_in, nlroute_number_of, nlroute_row,
-    nlroute_text,
+    nlroute_from_port_kind, nlroute_kind_of, nlroute_kind_of_in, nlroute_number_of,
+    nlroute_read_row, nlroute_text,
 };
 use link_entries::{Entry, Row};
 
@@ -32,16 +32,16 @@ fn rows(rt: HostRuntime) {
     ];
     for (family, kind, inner, depth, width, flags, form, is_list) in rows {
         let mut row = NO_ROW;
-        let answer = nlroute_row(family, kind, inner, depth, &mut row);
+        let answer = nlroute_read_row(family, kind, inner, depth, &mut row);
         let is_so = row.width == width && row.form == form && row.is_list == is_list;
         assert!(rt; answer == 0 && is_so && row.flags == flags);
     }
     for (kind, depth) in [(1, 1), (47, 2)] {
         let mut row = NO_ROW;
-        let answer = nlroute_row(3, kind, 1, depth, &mut row);
+        let answer = nlroute_read_row(3, kind, 1, depth, &mut row);
         assert!(rt; answer == -9 && row.width == 9 && row.form == 9);
     }
-    assert!(rt; nlroute_row(99, 1, 0, 0, &mut NO_ROW) == -5);
+    assert!(rt; nlroute_read_row(99, 1, 0, 0, &mut NO_ROW) == -5);
 }
 
 #[test]

@@ -1,6 +1,6 @@
 //! Tests of the fields of structs.
 
-use crate::nlroute_field;
+use crate::nlroute_read_field;
 use crate::struct_fields::StructField;
 use crate::tests::{BLANK, TIMING_VALUE, TIMINGS};
 use link_entries::Entry;
@@ -50,7 +50,7 @@ fn holds_field(
     numbers: [u64; 4],
 ) {
     let mut field = NO_FIELD;
-    let answer = nlroute_field(family, value, index, &TIMINGS, &mut field);
+    let answer = nlroute_read_field(family, value, index, &TIMINGS, &mut field);
     let stored = [
         field.number,
         field.offset,
@@ -77,7 +77,7 @@ fn fields_of_structs(rt: HostRuntime) {
         holds_field(&rt, family, &value, index, name, numbers);
     }
     let mut field = NO_FIELD;
-    assert!(rt; nlroute_field(3, &BRIDGE, 1, &[], &mut field) == 0);
+    assert!(rt; nlroute_read_field(3, &BRIDGE, 1, &[], &mut field) == 0);
     assert!(rt; field.octets == [2, 0, 0, 0, 0, 1, 0, 0, 0, 0, 0, 0, 0, 0, 0, 0]);
 }
 
@@ -114,7 +114,7 @@ fn no_fields(rt: HostRuntime) {
     for (family, value, index, room, wanted) in rows {
         let mut field = NO_FIELD;
         assert!(rt; room <= 53);
-        let answer = nlroute_field(family, &value, index, &TIMINGS[..room], &mut field);
+        let answer = nlroute_read_field(family, &value, index, &TIMINGS[..room], &mut field);
         let is_left = field.number == 9 && field.form == 9 && field.name == [0xFF; 32];
         assert!(rt; answer == wanted && is_left);
     }

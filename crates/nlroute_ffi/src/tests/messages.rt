@@ -3,7 +3,9 @@
 use crate::held::ByteRange;
 use crate::message::FoundMessage;
 use crate::tests::{BLANK, NO_ERROR, holds, numbers_of};
-use crate::{nlroute_held, nlroute_message, nlroute_message_fault, nlroute_opens, nlroute_values};
+use crate::{
+    nlroute_held, nlroute_message_fault, nlroute_opens, nlroute_read_message, nlroute_values,
+};
 use link_entries::Entry;
 
 /// An RTM_NEWLINK of the link 9, with an `IFLA_MTU` of two bytes, which is malformed, and the `IFLA_LINKINFO` of a bond; then an
@@ -35,18 +37,18 @@ const NO_MESSAGE: FoundMessage = FoundMessage {
 #[test]
 fn messages(rt: HostRuntime) {
     let mut link = NO_MESSAGE;
-    assert!(rt; nlroute_message(&DUMP, 0, &mut link) == 0);
+    assert!(rt; nlroute_read_message(&DUMP, 0, &mut link) == 0);
     assert!(rt; link.list == 32 && link.length == 32 && link.next == 64 && link.len == 64);
     assert!(rt; link.kind == 16 && link.flags == 2 && link.sequence == 5 && link.port == 7);
     assert!(rt; link.is_link == 1 && link.index == 9 && link.link_type == 1);
     assert!(rt; link.address_family == 0 && link.link_flags == 1 && link.change == 1);
     let mut done = NO_MESSAGE;
-    assert!(rt; nlroute_message(&DUMP, 64, &mut done) == 0);
+    assert!(rt; nlroute_read_message(&DUMP, 64, &mut done) == 0);
     assert!(rt; done.list == 80 && done.length == 2 && done.next == 82 && done.kind == 3);
     assert!(rt; done.is_link == 0 && done.index == 0 && done.change == 0);
     for (at, wanted) in [(82, -6), (usize::MAX, -6), (70, -1)] {
         let mut none = NO_MESSAGE;
-        let answer = nlroute_message(&DUMP, at, &mut none);
+        let answer = nlroute_read_message(&DUMP, at, &mut none);
         assert!(rt; answer == wanted && none.next == 9 && none.is_link == 9);
     }
 }
