@@ -1,6 +1,6 @@
 #!/usr/bin/env python3
 """Writes crates/nlroute_ffi/include/nlroute_kinds.h: the attribute types, by the kernel's names, each with the form of its
-values, and whether it is read-only or write-only, which the comments of variants say.
+values, what its number counts, and whether it is read-only or write-only, which the comments of variants say.
 
 usage: tools/kinds.py [--check | --compare]
 
@@ -34,13 +34,19 @@ STRUCTS = {
     "BridgeId": "BRIDGE_ID", "VlanInfo": "VLAN_INFO", "BooleanOptions": "MASKED", "BitTiming": "BITTIMING",
     "Clock": "UNSIGNED", "CtrlMode": "MASKED", "BerrCounter": "BERR_COUNTER",
 }  # fmt: skip
+# What numbers count, by the quantities of the tables.
+UNITS = {
+    "": "", "Mask": "", "ClockTicks": "1/100 s", "Milliseconds": "ms", "Seconds": "s", "Nanoseconds": "ns",
+    "BitsPerSecond": "bit/s", "Ohms": "ohms", "Hertz": "Hz", "InterfaceIndex": "interface index",
+}  # fmt: skip
 KERNEL = "#include <linux/if_link.h>\n#include <linux/if_bridge.h>\n#include <linux/can/netlink.h>\n#include <linux/devlink.h>\n#include <linux/veth.h>\n"
 TOP = """\
 /*
  * The attribute types that the library knows, by the names of the kernel's headers with NLROUTE_ before them, each with the
- * form of its values, without NLROUTE_FORM_. Older headers of the kernel lack some of them. A type that is read-only is
- * reported by the kernel and cannot be set: leave it out of a request that repeats a reply, since some are refused there.
- * One that is write-only can be set and is not reported. tools/kinds.py writes this file.
+ * form of its values, without NLROUTE_FORM_, and the unit of its number, if it has one: 1/100 s are clock ticks (USER_HZ).
+ * Older headers of the kernel lack some of the types. A type that is read-only is reported by the kernel and cannot be set:
+ * leave it out of a request that repeats a reply, since some are refused there. One that is write-only can be set and is not
+ * reported. tools/kinds.py writes this file.
  */
 #ifndef NLROUTE_KINDS_H
 #define NLROUTE_KINDS_H
@@ -55,11 +61,11 @@ def tables():
     lists = {"Nested": "LIST of attributes", "Addresses 4": "LIST of IPV4", "Addresses 16": "LIST of IPV6"}
 
     def rows(table):
-        for number, (name, _, shape) in tree.tables[table].items():
+        for number, (name, quantity, shape) in tree.tables[table].items():
             word, *more = shape.split()
             form = STRUCTS.get((more or [""])[0]) or lists.get(word) or lists.get(shape) or form_of[word]
-            way = tree.ways.get(table, {}).get(name)
-            yield int(number), name, form + f", {way}" * bool(way)
+            said = form, UNITS[quantity], tree.ways.get(table, {}).get(name)
+            yield int(number), name, ", ".join(it for it in said if it)
 
     for family in families(tree.text):
         yield f"NLROUTE_{family['NAME']}", [*rows(family["table"])]
