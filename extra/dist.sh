@@ -21,11 +21,14 @@ date=${SOURCE_DATE_EPOCH:-$(git -C "$top" log -1 --format=%ct)}
 version=$(sed -n 's/^Version: //p' "$prefix/lib/pkgconfig/nlroute.pc")
 series=${version%.*}
 unproved=
-proved="Every function of the library and the programs was proved before it was built. nlroute.h has what is
-proved of the C functions, for callers that meet its requirements. The toolchain and its C code are trusted."
+proved="Every function of the library and of the programs is proved to be safe and to meet its contract, in builds that say
+proved; the Rust and Python packages are only tested. This build says proved. nlroute.h has what is proved of the C
+functions, for callers that meet its requirements. The toolchain and its C code are trusted."
 if grep -q 'unproved build' "$prefix/lib/pkgconfig/nlroute.pc"; then
     unproved=-unproved
-    proved="Nothing of this build is proved: use it only to try the library."
+    proved="Every function of the library and of the programs is proved to be safe and to meet its contract, in builds that say
+proved; the Rust and Python packages are only tested. This build says unproved: nothing of it is proved. Use it only to
+try the library."
 fi
 name=nlroute-$version$unproved-$(uname -m)-linux
 room=$(mktemp -d)

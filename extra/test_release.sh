@@ -90,6 +90,16 @@ licences() {
     test -z "$crate" || (cd "$crate/licences" && find . -type f | sed 's,^\./,,' | sort) | diff - "$room/licences"
 }
 
+# Each text that says what is proved says of which builds: an unproved release has the same texts.
+proofs_said() {
+    find "$tree" -type f ! -path '*/bin/*' ! -path '*/lib/*' ! -path '*/licences/*' >"$room/texts"
+    while read -r it; do
+        sed 's,^[ */#!]*,,' "$it" | tr '\n' ' ' | sed 's/\. /.\n/g' | grep -E '\b(is|are|was|were) proved\b' |
+            grep -vE 'builds that say|neither the function|nothing of it' || true
+    done <"$room/texts" >"$room/claimed"
+    diff /dev/null "$room/claimed"
+}
+
 # The program of docs/c.md, with the shared and with the static library.
 c_program() {
     awk '/^```c$/ { on = 1; next } /^```$/ && on { exit } on' docs/c.md >"$room/main.c"
@@ -251,6 +261,7 @@ check "what the shared object needs" needs
 check "the symbols and their versions" symbols
 check "the SBOM is JSON" python3 -m json.tool "$(echo "$made"/*.spdx.json)" "$room/sbom"
 check "the licences in each package" licences
+check "what is proved, of which builds" proofs_said
 check "C: the program of docs/c.md" c_program
 check "C: the program of README.md" first_in_c
 check "C: the mark of a program" mark_of_program

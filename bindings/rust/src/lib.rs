@@ -1,8 +1,9 @@
 //! Reads, prints and writes lists of netlink link attributes, such as the payload of `IFLA_INFO_DATA`. Reads messages about
 //! links, and writes requests.
 //!
-//! The work is done by the C library nlroute, whose parsers and writers are proved to meet their contracts. This crate
-//! adds types: a [`Key`] knows its attribute set and the type of its values, so a wrong one does not compile.
+//! The work is done by the C library nlroute, whose functions are proved in builds that say `proved` ([`build`]); this
+//! crate is only tested. It adds types: a [`Key`] knows its attribute set and the type of its values, so a wrong one does
+//! not compile.
 //!
 //! ```
 //! use nlroute::*;

@@ -4,9 +4,9 @@
  *
  * A list is the attributes of a message about a link, or the payload of an IFLA_INFO_DATA, IFLA_INFO_SLAVE_DATA,
  * IFLA_AF_SPEC or IFLA_PROTINFO attribute. Numbers in lists are little-endian, whatever the byte order of the machine.
- * Return values and outputs are proved to be as described below, for every input; the contracts are in
- * crates/nlroute_ffi/src/lib.rt of the sources. Tested only are what is marked "not proved", the inline functions, and
- * that a function does not allocate.
+ * In builds that say `proved` (nlroute_build()), return values and outputs are proved to be as described below, for every
+ * input; the contracts are in crates/nlroute_ffi/src/lib.rt of the sources. Tested only are what is marked "not proved",
+ * the inline functions, and that a function does not allocate.
  *
  * A list is canonical if all padding is present and zero, each nla_type is the one that is written, with its flags, and
  * each payload is the only encoding of its value.

@@ -2,8 +2,9 @@
  * Writes requests about links, such as the one that makes a bond: whole rtnetlink messages, from a head and an array of
  * values. The function opens no socket; send() takes what it writes.
  *
- * What nlroute.h requires of callers holds here too. What nlroute_request() returns and stores is proved to be as described
- * below. The inline functions, and what Linux does, are only tested. The header needs no header of the kernel.
+ * What nlroute.h requires of callers holds here too. In builds that say `proved`, what nlroute_request() returns and stores
+ * is proved to be as described below. The inline functions, and what Linux does, are only tested. The header needs no header
+ * of the kernel.
  */
 #ifndef NLROUTE_REQUESTS_H
 #define NLROUTE_REQUESTS_H
