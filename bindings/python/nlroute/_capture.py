@@ -261,7 +261,9 @@ def interface_of(order: str, block: bytes) -> Interface:
         raise InputFault(f"if_tsresol {resolution[0]} is above 9")
     if len(offset) != 8:
         raise InputFault(f"if_tsoffset has {bytes_text(len(offset))}, expected 8")
-    return Interface(*struct.unpack_from(f"{order}H", block, 8), resolution[0], *struct.unpack(f"{order}q", offset))
+    (link_type,) = struct.unpack_from(f"{order}H", block, 8)
+    (seconds,) = struct.unpack(f"{order}q", offset)
+    return Interface(link_type, resolution[0], seconds)
 
 
 def options_in(order: str, data: bytes) -> Iterator[tuple[int, bytes]]:
@@ -292,7 +294,8 @@ def packet_of(order: str, interfaces: list[Interface], block: bytes) -> Packet:
 
 def nanoseconds(seconds: int, parts: int, digits: int) -> int:
     """Returns the nanoseconds in seconds and parts of a second, of which 10 to the power of `digits` are one."""
-    return seconds * 10**9 + parts * 10 ** (9 - digits)
+    unit: int = 10 ** (9 - digits)
+    return seconds * 10**9 + parts * unit
 
 
 def time_text(nanosecond: int, digits: int) -> str:
