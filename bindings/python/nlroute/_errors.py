@@ -3,7 +3,7 @@ from __future__ import annotations
 
 from typing import Any
 
-from ._kinds import Cause, Code, Place
+from ._kinds import Cause, Code, Family, Place
 
 
 class Error(ValueError):
@@ -11,7 +11,8 @@ class Error(ValueError):
 
 
 class Fault(Error):
-    """The bytes are not a list of this attribute set. The text is that of `nlshow`.
+    """The bytes are not a list of this attribute set. The text is that of `nlshow`: of a list in a message, its offset counts
+    from the start of the buffer that has the message.
 
     >>> import nlroute
     >>> try:
@@ -27,13 +28,19 @@ class Fault(Error):
     kind: int  # attribute type, 0 for a malformed header of an attribute
     inner: int  # type of the element, if its payload is malformed
     numbers: tuple[int, int]  # those of the cause, in bytes
+    family: Family  # attribute set of the list
+    list_at: int  # offset of the list in the buffer of messages, in bytes; 0 for a list that is in none
 
-    def __init__(self, text: str, at: int, place: Place, cause: Cause, kind: int, inner: int, numbers: tuple[int, int]):
+    def __init__(
+        self, text: str, at: int, place: Place, cause: Cause, kind: int, inner: int, numbers: tuple[int, int],
+        family: Family, list_at: int = 0,
+    ):  # fmt: skip
         super().__init__(text)
         self.at, self.place, self.cause, self.kind, self.inner, self.numbers = at, place, cause, kind, inner, numbers
+        self.family, self.list_at = family, list_at
 
     def __reduce__(self) -> tuple[Any, ...]:
-        fields = self.at, self.place, self.cause, self.kind, self.inner, self.numbers
+        fields = self.at, self.place, self.cause, self.kind, self.inner, self.numbers, self.family, self.list_at
         return type(self), (str(self), *fields)
 
 

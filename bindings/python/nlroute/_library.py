@@ -77,8 +77,8 @@ def whole(data: bytes | bytearray | memoryview) -> bytes:
     return data if type(data) is bytes else bytes(memoryview(data))
 
 
-def values(family: Family, data: bytes) -> memoryview:
-    """Returns the records of a list. Raises Fault."""
+def values(family: Family, data: bytes, start: int = 0) -> memoryview:
+    """Returns the records of a list, which has the offset `start` for errors. Raises Fault."""
     places = len(data) // 8 + 1  # enough for nearly every list, and len / 2 for all
     while True:
         out = buffer(VALUE.size * places)
@@ -86,20 +86,21 @@ def values(family: Family, data: bytes) -> memoryview:
         if count >= 0:
             return memoryview(out).cast("B")[: count * VALUE.size]
         if count != Code.NO_ROOM:
-            raise fault(family, data) if count == Code.HAS_FAULT else unexpected(count)
+            raise fault(family, data, start) if count == Code.HAS_FAULT else unexpected(count)
         places = len(data) // 2
 
 
-def fault(family: Family, data: bytes) -> Fault:
-    """Returns the first error of a malformed list."""
+def fault(family: Family, data: bytes, start: int) -> Fault:
+    """Returns the first error of a malformed list, which has the offset `start`."""
     out = buffer(FAULT.size)
     code = LIBRARY.nlroute_first_fault(family, data, len(data), out)
     if code:
         raise unexpected(code)
     raw = ctypes.string_at(out, FAULT.size)
     at, first, second, place, kind, inner, cause = FAULT.unpack(raw)
-    words = text_of(LIBRARY.nlroute_fault_text, family, raw)
-    return Fault(words, at, Place(place), Cause(cause), kind, inner, (first, second))
+    moved = FAULT.pack(start + at, first, second, place, kind, inner, cause)
+    words = text_of(LIBRARY.nlroute_fault_text, family, moved)
+    return Fault(words, at, Place(place), Cause(cause), kind, inner, (first, second), family, start)
 
 
 def message(data: bytes, at: int) -> MessageRecord | None:

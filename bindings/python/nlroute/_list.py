@@ -6,6 +6,7 @@ from typing import Any, overload
 
 from . import _library, _plain, _read, _write
 from ._kinds import Family
+from ._records import HEADER
 from ._tables import TABLES, Table
 from ._types import Attribute, Key, Mac, Name, T
 from ._write import Values, pairs
@@ -58,8 +59,13 @@ class List:
     @classmethod
     def read(cls, family: Family, data: bytes | bytearray | memoryview) -> List:
         """Parses a list. Raises Fault."""
-        table = TABLES[Family(family)]
-        return cls._of(table, _read.attributes(table, _library.whole(data), cls._of))
+        return cls._read_at(0, Family(family), _library.whole(data))
+
+    @classmethod
+    def _read_at(cls, start: int, family: Family, data: bytes) -> List:
+        """Parses a list that has this offset in a buffer of messages. Raises Fault."""
+        table = TABLES[family]
+        return cls._of(table, _read.attributes(table, data, cls._of, start))
 
     @classmethod
     def _of(cls, table: Table, items: list[Attribute]) -> List:
@@ -178,8 +184,8 @@ class List:
 
         An enum is its text or, without one, a number; flags are a list of names. Addresses are text, other bytes hex
         digits. A struct is a dict, and so is an array whose places have names. Lists of other sets are read, as in
-        IFLA_INFO_DATA. Attributes that Linux sends several times, such as IFLA_BRIDGE_VLAN_INFO, are a list of all
-        values. Raises as bytes() does.
+        IFLA_INFO_DATA; one that is malformed is a dict of its first `error` and its bytes, `hex`. Attributes that Linux
+        sends several times, such as IFLA_BRIDGE_VLAN_INFO, are a list of all values. Raises as bytes() does.
 
         >>> from nlroute import *
         >>> bond = {"IFLA_BOND_MODE": 4, "IFLA_BOND_ARP_IP_TARGET": ["10.0.0.1"]}
@@ -189,7 +195,9 @@ class List:
         if not self._table.list_row:
             return _plain.to_dict(self._table, bytes(self))
         above = List(self.family, [(self._table.title, self)])
-        inner: dict[str, Any] = _plain.to_dict(above._table, bytes(above))[self._table.title]
+        # (the offsets of errors count from the list, before which is a header)
+        found: dict[str, Any] = _plain.to_dict(above._table, bytes(above), start=-HEADER)
+        inner: dict[str, Any] = found[self._table.title]
         return inner
 
     def __eq__(self, other: object) -> bool:

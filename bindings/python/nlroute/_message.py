@@ -28,7 +28,7 @@ class Message:
 
     __slots__ = (
         "at", "type", "flags", "sequence", "port", "is_link", "index", "link_flags", "change", "link_type",
-        "address_family", "payload",
+        "address_family", "payload", "_start",
     )  # fmt: skip
 
     at: int  # offset in the buffer, in bytes
@@ -52,37 +52,43 @@ class Message:
         self.index, self.link_flags, self.change = fields.link_index, fields.link_flags, fields.change
         self.link_type, self.address_family = fields.link_type, fields.address_family
         self.payload = data[fields.list : fields.list + fields.length]
+        self._start = fields.list  # offset of the payload in the buffer
 
     @property
     def attributes(self) -> List:
         """Its attributes: empty, if it is not about a link. Raises Fault."""
-        return List.read(Family.LINK, self.payload if self.is_link else b"")
+        return List._read_at(self._start, Family.LINK, self.payload if self.is_link else b"")
 
     def held(self, family: Family) -> List | None:
         """Returns the last list of a set that an attribute holds, at any depth, or None. Raises Fault if it is malformed."""
         held = _library.held(self.payload, self.address_family, Family(family)) if self.is_link else None
-        return None if held is None else List.read(family, self.payload[held[0] : held[0] + held[1]])
+        if held is None:
+            return None
+        at, length = held
+        return List._read_at(self._start + at, Family(family), self.payload[at : at + length])
 
     def lists(self) -> Iterator[tuple[Family, List]]:
         """Yields its attributes, and each list that one of them holds, followed by those in it. Raises Fault."""
         if self.is_link:
-            yield from lists_in(LEVELS, self.address_family, Family.LINK, self.payload)
+            yield from lists_in(LEVELS, self.address_family, Family.LINK, self.payload, self._start)
 
     def to_dict(self) -> dict[str, Any]:
-        """Returns the fields and the attributes, as `List.to_dict` does. Raises Fault."""
+        """Returns the fields and the attributes, as `List.to_dict` does. Raises Fault if the attributes are malformed."""
         found: dict[str, Any] = {name: getattr(self, name) for name in ("type", "flags", "sequence", "port")}
         if self.is_link:
             found |= {name: getattr(self, name) for name in _plain.HEADER}
-            found["attributes"] = _plain.to_dict(TABLES[Family.LINK], self.payload, self.address_family)
+            found["attributes"] = _plain.to_dict(TABLES[Family.LINK], self.payload, self.address_family, self._start)
         return found
 
     def __repr__(self) -> str:
         return f"<Message type={self.type} index={self.index} {len(self.payload)} bytes>"
 
 
-def lists_in(depth: int, address_family: int, family: Family, data: bytes) -> Iterator[tuple[Family, List]]:
-    """Yields a list, and those in it, through a number of levels."""
-    yield family, List.read(family, data)
+def lists_in(
+    depth: int, address_family: int, family: Family, data: bytes, start: int
+) -> Iterator[tuple[Family, List]]:
+    """Yields a list, which has the offset `start` in the buffer, and those in it, through a number of levels."""
+    yield family, List._read_at(start, family, data)
     raw = bytes(_library.values(family, data))
     for index in range(len(raw) // VALUE.size if depth else 0):
         it = record(raw, index)
@@ -92,8 +98,8 @@ def lists_in(depth: int, address_family: int, family: Family, data: bytes) -> It
         below = _library.opens(family, address_family, one, data)
         if below is not None:
             held = data[it.offset : it.offset + it.length]
-            inner, within = (held[0], held[PEER_HEADER:]) if it.form == Form.PEER else (address_family, held)
-            yield from lists_in(depth - 1, inner, below, within)
+            skipped, inner = (PEER_HEADER, held[0]) if it.form == Form.PEER else (0, address_family)
+            yield from lists_in(depth - 1, inner, below, held[skipped:], start + it.offset + skipped)
 
 
 def messages(data: bytes | bytearray | memoryview) -> Iterator[Message]:

@@ -5,7 +5,7 @@ from ipaddress import IPv4Address, IPv6Address
 from typing import Any
 
 from ._errors import Fault
-from ._kinds import Form
+from ._kinds import Family, Form
 from ._library import kind_name, opens, value_text
 from ._read import content, groups, is_array, payload, struct_fields_of
 from ._records import IFINFOMSG, PEER_HEADER, Record, record
@@ -25,18 +25,21 @@ REPEATED = {
 HEADER = "address_family", "link_type", "index", "link_flags", "change"
 
 
-def to_dict(table: Table, data: bytes, address_family: int = 0) -> dict[str, Any]:
-    """Returns the values of a list by name, in a message of this address family. Raises Fault."""
+def to_dict(table: Table, data: bytes, address_family: int = 0, start: int = 0) -> dict[str, Any]:
+    """Returns the values of a list by name, in a message of this address family. It has the offset `start` for errors.
+
+    Raises Fault.
+    """
     found: dict[str, Any] = {}
-    for raw, elements in groups(table.family, data):
+    for raw, elements in groups(table.family, data, start):
         it = record(raw, 0)
         row = table.by_kind.get(it.kind)
         if it.form != Form.LIST or row is None:
-            value = plain(table, row, raw, data, address_family)
+            value = plain(table, row, raw, data, address_family, start)
         elif row.item:
             value = array(table, row.item, raw, elements, data)
         else:
-            value = inner(table.below[it.kind], elements, data, address_family)
+            value = inner(table.below[it.kind], elements, data, address_family, start)
         put(found, table, table.name(it.kind), value)
     return found
 
@@ -49,12 +52,12 @@ def put(found: dict[str, Any], table: Table, name: str, value: Any) -> None:
         found[name] = value
 
 
-def inner(table: Table, elements: list[bytes], data: bytes, address_family: int) -> dict[str, Any]:
+def inner(table: Table, elements: list[bytes], data: bytes, address_family: int, start: int) -> dict[str, Any]:
     """Returns the elements of a nested list by name."""
     found: dict[str, Any] = {}
     for raw in elements:
         kind = record(raw, 0).inner
-        put(found, table, table.name(kind), plain(table, table.by_kind.get(kind), raw, data, address_family))
+        put(found, table, table.name(kind), plain(table, table.by_kind.get(kind), raw, data, address_family, start))
     return found
 
 
@@ -67,11 +70,11 @@ def array(table: Table, row: Row, raw: bytes, elements: list[bytes], data: bytes
     return dict(zip((name.strip("[]") for name in names), values))
 
 
-def plain(table: Table, row: Row | None, raw: bytes, data: bytes, address_family: int) -> Any:
-    """Returns a value that is not a nested list. Raises nothing: a list of another set that is malformed is hex."""
+def plain(table: Table, row: Row | None, raw: bytes, data: bytes, address_family: int, start: int) -> Any:
+    """Returns a value that is not a nested list."""
     it = record(raw, 0)
     if it.form in (Form.HELD, Form.PEER, Form.UNKNOWN):
-        found = held(table, raw, it, data, address_family)
+        found = held(table, raw, it, data, address_family, start)
         if found is not None:
             return found
     if it.form == Form.BYTES:
@@ -79,19 +82,25 @@ def plain(table: Table, row: Row | None, raw: bytes, data: bytes, address_family
     return value_of(content(row, it, data))
 
 
-def held(table: Table, raw: bytes, it: Record, data: bytes, address_family: int) -> dict[str, Any] | None:
-    """Returns a list of another set, or None if no set reads it or it is malformed."""
+def held(table: Table, raw: bytes, it: Record, data: bytes, address_family: int, start: int) -> dict[str, Any] | None:
+    """Returns a list of another set, or None if no set reads it."""
     family = opens(table.family, address_family, raw, data)
     if family is None:
         return None
-    found = payload(it, data)
+    found, at = payload(it, data), start + it.offset
+    if it.form != Form.PEER:
+        return read_or_marked(family, found, address_family, at)
+    header = dict(zip(HEADER, IFINFOMSG.unpack_from(found)))
+    below = read_or_marked(family, found[PEER_HEADER:], header["address_family"], at + PEER_HEADER)
+    return {**header, "attributes": below}
+
+
+def read_or_marked(family: Family, data: bytes, address_family: int, start: int) -> dict[str, Any]:
+    """Returns the values of a list by name; of one that is malformed, its first error and its bytes."""
     try:
-        if it.form != Form.PEER:
-            return to_dict(TABLES[family], found, address_family)
-        header = dict(zip(HEADER, IFINFOMSG.unpack_from(found)))
-        return header | {"attributes": to_dict(TABLES[family], found[PEER_HEADER:], header["address_family"])}
-    except Fault:
-        return None
+        return to_dict(TABLES[family], data, address_family, start)
+    except Fault as fault:
+        return {"error": str(fault), "hex": data.hex()}
 
 
 def octets(table: Table, raw: bytes, it: Record, data: bytes) -> Any:

@@ -30,9 +30,12 @@ Nested = Callable[[Table, "list[Attribute]"], Any]
 SIGN = 1 << 63
 
 
-def attributes(table: Table, data: bytes, nested: Nested) -> list[Attribute]:
-    """Returns the attributes of a list. `nested` makes the value of a nested list. Raises Fault."""
-    raw = values(table.family, data)
+def attributes(table: Table, data: bytes, nested: Nested, start: int = 0) -> list[Attribute]:
+    """Returns the attributes of a list, which has the offset `start` for errors. `nested` makes the value of a nested list.
+
+    Raises Fault.
+    """
+    raw = values(table.family, data, start)
     ready, numbers, new = table.ready, table.numbers, tuple.__new__
     found: list[Attribute] = []
     passed = 0  # elements so far
@@ -167,9 +170,12 @@ def field_content(field: FieldRecord, it: Record, data: bytes) -> int | Mac | by
     return data[start : start + field.length]
 
 
-def groups(family: Family, data: bytes) -> Iterator[tuple[bytes, list[bytes]]]:
-    """Yields the record of each attribute of a list, with those of its elements. Raises Fault."""
-    raw = bytes(values(family, data))
+def groups(family: Family, data: bytes, start: int = 0) -> Iterator[tuple[bytes, list[bytes]]]:
+    """Yields the record of each attribute of a list, with those of its elements. The list has the offset `start` for errors.
+
+    Raises Fault.
+    """
+    raw = bytes(values(family, data, start))
     records = [raw[at : at + VALUE.size] for at in range(0, len(raw), VALUE.size)]
     at = 0
     while at < len(records):

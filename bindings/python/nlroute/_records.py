@@ -60,6 +60,7 @@ FAULT = struct.Struct("=QQQIIII")
 MESSAGE = struct.Struct("=QQQIIIHHiIIHBB")
 RANGE = struct.Struct("=QQ")
 assert VALUE.size == HEAD.size == 48 and REQUEST.size == 28 and FIELD.size == 72 and FAULT.size == 40 and MESSAGE.size == 56
+HEADER = 4  # bytes of struct nlattr
 # The struct ifinfomsg that is before the attributes of NLROUTE_FORM_PEER.
 IFINFOMSG = struct.Struct("=BxHiII")
 PEER_HEADER = IFINFOMSG.size

@@ -9,10 +9,9 @@ from ._errors import Fault
 from ._kinds import Family, Form
 from ._library import is_canonical, opens, value_text, values
 from ._read import groups, is_array, line, payload, title
-from ._records import IFINFOMSG, PEER_HEADER, record
+from ._records import HEADER, IFINFOMSG, PEER_HEADER, record
 from ._tables import TABLES, Table
 
-HEADER = 4  # bytes of struct nlattr
 AF_BRIDGE, IFLA_PROTINFO, IFLA_BRPORT_STATE = 7, 12, 1
 MOST_LEVELS = 6  # of lists that are opened below a list
 # Names in a header (`linux/socket.h`, `if_arp.h`, `if.h`), without ARPHRD_ and IFF_.

@@ -8,8 +8,8 @@ from typing import NamedTuple
 from . import _library
 from ._errors import MessageFault
 from ._kinds import Cause, Family
-from ._records import IFINFOMSG
-from ._show import HEADER, flags_text, header_words, pieces, quoted, set_lines
+from ._records import HEADER, IFINFOMSG
+from ._show import flags_text, header_words, pieces, quoted, set_lines
 from ._tables import TABLES
 
 NLMSG_ERROR, NLMSG_DONE, RTM_GETLINK = 2, 3, 18

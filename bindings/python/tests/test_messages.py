@@ -80,14 +80,39 @@ class Messages(unittest.TestCase):
         (it,) = messages(link(attribute(18, attribute(1, b"bond") + attribute(2, attribute(3, b"\1")))))
         with self.assertRaises(Fault) as caught:
             it.held(Family.BOND)
-        self.assertEqual(str(caught.exception), "error at 0: IFLA_BOND_MIIMON has 1 byte, expected 4")
+        # two headers of 16 bytes, that of IFLA_LINKINFO, 8 bytes of IFLA_INFO_KIND, and the header of IFLA_INFO_DATA
+        self.assertEqual(str(caught.exception), "error at 48: IFLA_BOND_MIIMON has 1 byte, expected 4")
+        self.assertEqual((caught.exception.at, caught.exception.list_at, caught.exception.family), (0, 48, Family.BOND))
         found = []
         with self.assertRaises(Fault):
             for family, _ in it.lists():
                 found.append(family)
         self.assertEqual(found, [Family.LINK])
         data = it.to_dict()["attributes"]["IFLA_LINKINFO"]["IFLA_INFO_DATA"]
-        self.assertEqual(data, "0500030001000000")
+        words = "error at 48: IFLA_BOND_MIIMON has 1 byte, expected 4"
+        self.assertEqual(data, {"error": words, "hex": "0500030001000000"})
+
+    def test_offsets_of_errors(self):
+        # after a message: a bond whose IFLA_BOND_MODE has 4 bytes, a list whose first header is malformed, and attributes
+        # of the message that are
+        info = lambda data: attribute(18, attribute(1, b"bond") + attribute(2, data))
+        rows = [
+            (info(MODE + attribute(1, bytes(4))), Family.BOND, 8, 48, "IFLA_BOND_MODE has 4 bytes, expected 1"),
+            (info(b"\3\0\1\0"), Family.BOND, 0, 48, "nla_len 3 is below 4"),
+            (attribute(3, b"b0\0") + attribute(4, b"\1"), Family.LINK, 8, 32, "IFLA_MTU has 1 byte, expected 4"),
+        ]
+        for data, family, at, start, words in rows:
+            _, it = messages(LINK + link(data))
+            expected = f"error at {len(LINK) + start + at}: {words}", at, len(LINK) + start, family
+            calls = [lambda: list(it.lists()), lambda: it.attributes if family == Family.LINK else it.held(family)]
+            for call in calls:
+                with self.assertRaises(Fault) as caught:
+                    call()
+                for fault in caught.exception, copy.copy(caught.exception), pickle.loads(pickle.dumps(caught.exception)):
+                    self.assertEqual((str(fault), fault.at, fault.list_at, fault.family), expected)
+        with self.assertRaises(Fault) as caught:
+            read(Family.BOND, b"\3\0\1\0")
+        self.assertEqual((caught.exception.list_at, caught.exception.family), (0, Family.BOND))
 
     def test_bridge(self):
         # of AF_BRIDGE: IFLA_AF_SPEC is another list; IFLA_PROTINFO (12) is one with NLA_F_NESTED
@@ -129,6 +154,14 @@ class Messages(unittest.TestCase):
         self.assertEqual((found["address_family"], found["index"], found["link_flags"]), (7, 5, 0))
         self.assertEqual(found["attributes"]["IFLA_IFNAME"], "v1")
         self.assertEqual(list(found["attributes"]["IFLA_AF_SPEC"]), ["IFLA_BRIDGE_VLAN_INFO"])
+        # an IFLA_MTU (4) of a byte, after 48 bytes as above, the header of VETH_INFO_PEER, and that of the peer
+        (it,) = messages(link(attribute(18, attribute(1, b"veth") + attribute(2, attribute(1, header + attribute(4, b"\1"))))))
+        with self.assertRaises(Fault) as caught:
+            list(it.lists())
+        words = "error at 68: IFLA_MTU has 1 byte, expected 4"
+        self.assertEqual((str(caught.exception), caught.exception.list_at), (words, 68))
+        found = it.to_dict()["attributes"]["IFLA_LINKINFO"]["IFLA_INFO_DATA"]["VETH_INFO_PEER"]
+        self.assertEqual((found["index"], found["attributes"]), (5, {"error": words, "hex": "0500040001000000"}))
 
     def test_to_dict(self):
         (it,) = messages(LINK)

@@ -32,7 +32,8 @@ DICTS = [
      {"IFLA_LINKINFO": {"IFLA_INFO_KIND": "bridge", "IFLA_INFO_DATA": {"IFLA_BR_FORWARD_DELAY": 700}}}),
     # the data is malformed; of a kind without a set
     (Family.LINK, LINKINFO.replace("08000100 bc", "09000100 bc"),
-     {"IFLA_LINKINFO": {"IFLA_INFO_KIND": "bridge", "IFLA_INFO_DATA": "09000100bc020000"}}),
+     {"IFLA_LINKINFO": {"IFLA_INFO_KIND": "bridge", "IFLA_INFO_DATA":
+         {"error": "error at 20: nla_len 9 exceeds the 8 bytes left", "hex": "09000100bc020000"}}}),
     (Family.LINK, "14001200 08000100 74617000 08000200 01020304",
      {"IFLA_LINKINFO": {"IFLA_INFO_KIND": "tap", "IFLA_INFO_DATA": "01020304"}}),
     (Family.LINK, "0a000100 02000000 00050000 0800 0300 65746800",
@@ -67,6 +68,9 @@ class Plain(unittest.TestCase):
         self.assertEqual(bond.to_dict(), expected)
         within = List.within(Family.BOND, "IFLA_BOND_AD_INFO", {"IFLA_BOND_AD_INFO_PARTNER_MAC": bytes(6)})
         self.assertEqual(within.to_dict(), {"IFLA_BOND_AD_INFO_PARTNER_MAC": "00:00:00:00:00:00"})
+        info = read(Family.LINK, bytes.fromhex(LINKINFO.replace("08000100 bc", "09000100 bc")))["IFLA_LINKINFO"]
+        words = "error at 16: nla_len 9 exceeds the 8 bytes left"  # (without the header of IFLA_LINKINFO)
+        self.assertEqual(info.to_dict()["IFLA_INFO_DATA"]["error"], words)
         for empty in (List(Family.BOND), List.within(Family.BOND, "IFLA_BOND_AD_INFO")):
             self.assertEqual(empty.to_dict(), {})
         # names and addresses are accepted again

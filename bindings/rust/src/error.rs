@@ -20,11 +20,13 @@ pub enum Error {
 
 /// Reports the first error of a list that is malformed.
 ///
-/// `Display` writes what `nlshow` prints: `error at 8: IFLA_BR_HELLO_TIME has 3 bytes, expected 4`.
+/// `Display` writes what `nlshow` prints: `error at 8: IFLA_BR_HELLO_TIME has 3 bytes, expected 4`. Of a list in a message,
+/// the offset counts from the start of the buffer that has the message.
 #[derive(Clone, Copy, PartialEq, Eq, Hash)]
 pub struct Fault {
     family: Family,
     raw: RawFault,
+    list_at: usize,
 }
 
 /// Locates an error. `kind` and `inner` are attribute types without flags.
@@ -93,7 +95,23 @@ pub enum Cause {
 
 impl Fault {
     pub(crate) fn new(family: Family, raw: RawFault) -> Self {
-        Fault { family, raw }
+        Fault { family, raw, list_at: 0 }
+    }
+
+    /// Returns the error as one of a list at an offset of a buffer.
+    pub(crate) fn within(self, list_at: usize) -> Self {
+        Fault { list_at, ..self }
+    }
+
+    /// Returns the attribute set of the list.
+    pub fn family(&self) -> Family {
+        self.family
+    }
+
+    /// Returns the offset, in bytes, of the list in the buffer of [`messages`](crate::messages). It is 0 for a list that is in
+    /// none.
+    pub fn list_at(&self) -> usize {
+        self.list_at
     }
 
     /// Returns the offset in the list, in bytes, of the attribute that has the error.
@@ -134,7 +152,8 @@ impl Cause {
 
 impl fmt::Display for Fault {
     fn fmt(&self, f: &mut fmt::Formatter<'_>) -> fmt::Result {
-        sys::fault_text(self.family as u32, &self.raw).fmt(f)
+        let at = self.raw.at.saturating_add(self.list_at as u64);
+        sys::fault_text(self.family as u32, &RawFault { at, ..self.raw }).fmt(f)
     }
 }
 
@@ -142,6 +161,7 @@ impl fmt::Debug for Fault {
     fn fmt(&self, f: &mut fmt::Formatter<'_>) -> fmt::Result {
         f.debug_struct("Fault")
             .field("family", &self.family)
+            .field("list_at", &self.list_at)
             .field("at", &self.at())
             .field("place", &self.place())
             .field("cause", &self.cause())

@@ -139,8 +139,12 @@ impl<'a> Message<'a> {
 
     /// Returns the bytes of the attributes; of a message that is not about a link, the payload.
     pub fn payload(&self) -> &'a [u8] {
-        let start = self.raw.list as usize;
-        &self.bytes[start..start + self.raw.length as usize]
+        &self.bytes[self.start()..][..self.raw.length as usize]
+    }
+
+    /// Returns the offset of the payload in the buffer.
+    fn start(&self) -> usize {
+        self.raw.list as usize
     }
 
     /// Returns the bytes of the attributes; none, if the message is not about a link.
@@ -158,7 +162,7 @@ impl<'a> Message<'a> {
     ///
     /// Returns the first error in them.
     pub fn attributes(&self) -> Result<List<'a, Link>, Fault> {
-        List::read(self.list())
+        List::read(self.list()).map_err(|fault| fault.within(self.start()))
     }
 
     /// Reads the list of a set that an attribute holds, at any depth: that in an `IFLA_INFO_DATA` of a bond, for example. Of
@@ -170,7 +174,10 @@ impl<'a> Message<'a> {
     pub fn held<S: Set>(&self) -> Result<Option<List<'a, S>>, Fault> {
         let list = self.list();
         let held = sys::held(list, self.address_family(), S::FAMILY as u32);
-        held.map(|(offset, length)| List::read(&list[offset..offset + length])).transpose()
+        let read = |(offset, length): (usize, usize)| {
+            List::read(&list[offset..offset + length]).map_err(|fault| fault.within(self.start() + offset))
+        };
+        held.map(read).transpose()
     }
 
     /// Reads the attributes, and each list that one of them holds, followed by those in it. They are in the order of the
@@ -195,34 +202,33 @@ impl<'a> Message<'a> {
     pub fn lists(&self) -> impl Iterator<Item = Result<List<'a, Any>, Fault>> {
         let mut found = Vec::new();
         if self.is_link() {
-            add_lists(&mut found, LEVELS, self.address_family(), Family::Link, self.payload());
+            add_lists(&mut found, LEVELS, self.address_family(), Family::Link, self.payload(), self.start());
         }
         found.into_iter()
     }
 }
 
-/// Adds a list, and those in it, through `depth` levels.
+/// Adds a list, which begins at `start` of the buffer, and those in it, through `depth` levels.
 fn add_lists<'a>(
     found: &mut Vec<Result<List<'a, Any>, Fault>>,
     depth: usize,
     address_family: u8,
     family: Family,
     bytes: &'a [u8],
+    start: usize,
 ) {
     let list = match List::read_any(family, bytes) {
         Ok(list) => list,
-        Err(fault) => return found.push(Err(fault)),
+        Err(fault) => return found.push(Err(fault.within(start))),
     };
     found.push(Ok(list.clone()));
     for value in list.raw().iter().filter(|_| depth > 0) {
         let set = sys::opens(family as u32, address_family, value, bytes).and_then(Family::from_number);
         if let Some(set) = set {
-            let held = &bytes[value.offset as usize..][..value.length as usize];
-            if value.form == form::PEER {
-                add_lists(found, depth - 1, held[0], set, &held[PEER_HEADER..]);
-            } else {
-                add_lists(found, depth - 1, address_family, set, held);
-            }
+            let at = value.offset as usize;
+            let held = &bytes[at..][..value.length as usize];
+            let (inner, skipped) = if value.form == form::PEER { (held[0], PEER_HEADER) } else { (address_family, 0) };
+            add_lists(found, depth - 1, inner, set, &held[skipped..], start + at + skipped);
         }
     }
 }

@@ -94,15 +94,49 @@ fn the_last_list_of_a_set_counts() {
     assert_eq!(it.held::<Inet6>().map(|list| list.map(|list| list.len())), Ok(Some(1)));
     assert_eq!((it.held::<Bridge>(), it.held::<Link>()), (Ok(None), Ok(None)));
     let fault = it.attributes().expect_err("the MTU has one byte");
-    assert_eq!(fault.to_string(), "error at 28: IFLA_MTU has 1 byte, expected 4");
+    // two headers of 16 bytes, and the first IFLA_LINKINFO
+    assert_eq!(fault.to_string(), "error at 60: IFLA_MTU has 1 byte, expected 4");
+    assert_eq!((fault.family(), fault.list_at(), fault.at()), (Family::Link, 32, 28));
     assert_eq!(it.lists().map(|list| list.is_ok()).collect::<Vec<_>>(), [false]);
 
     // a list that is malformed
     let data = attribute(2, &attribute(3, &[1]));
     let bytes = link(0, &[attribute(18, &[attribute(1, b"bond"), data].concat())]);
     let fault = only(&bytes).held::<Bond>().expect_err("IFLA_BOND_MIIMON has one byte");
-    assert_eq!(fault.to_string(), "error at 0: IFLA_BOND_MIIMON has 1 byte, expected 4");
+    // two headers, that of IFLA_LINKINFO, 8 bytes of IFLA_INFO_KIND, and the header of IFLA_INFO_DATA
+    assert_eq!(fault.to_string(), "error at 48: IFLA_BOND_MIIMON has 1 byte, expected 4");
+    assert_eq!((fault.family(), fault.list_at(), fault.at()), (Family::Bond, 48, 0));
     assert_eq!(only(&bytes).lists().map(|list| list.is_ok()).collect::<Vec<_>>(), [true, false]);
+}
+
+#[test]
+fn errors_have_the_offset_in_the_buffer() {
+    // after a message of 40 bytes, a bond whose IFLA_BOND_MODE (1) has 4 bytes, and one whose first header is malformed
+    let first = link(0, &[attribute(3, b"b0\0")]);
+    let rows = [
+        (
+            [attribute(1, &[4]), attribute(1, &[0; 4])].concat(),
+            8,
+            "error at 96: IFLA_BOND_MODE has 4 bytes, expected 1",
+        ),
+        (vec![3, 0, 1, 0], 0, "error at 88: nla_len 3 is below 4"),
+    ];
+    for (data, at, words) in rows {
+        let info = attribute(18, &[attribute(1, b"bond"), attribute(2, &data)].concat());
+        let bytes = [first.clone(), link(0, &[info])].concat();
+        let it = messages(&bytes).nth(1).and_then(Result::ok).expect("it is well-formed");
+        let fault = it.held::<Bond>().expect_err("its data are malformed");
+        assert_eq!((fault.to_string().as_str(), fault.at(), fault.list_at()), (words, at, 88));
+        assert_eq!(it.lists().filter_map(Result::err).collect::<Vec<_>>(), [fault]);
+        let alone = List::<Bond>::read(&data).expect_err("it is malformed");
+        assert_eq!((alone.family(), alone.list_at(), alone.at()), (Family::Bond, 0, at));
+    }
+    // in the other end of a veth: an IFLA_MTU (4) of a byte
+    let peer = [vec![0; 16], attribute(4, &[1])].concat();
+    let info = [attribute(1, b"veth"), attribute(2, &attribute(1, &peer))].concat();
+    let bytes = link(0, &[attribute(18, &info)]);
+    let fault = only(&bytes).lists().find_map(Result::err).expect("the MTU is malformed");
+    assert_eq!((fault.to_string().as_str(), fault.list_at()), ("error at 68: IFLA_MTU has 1 byte, expected 4", 68));
 }
 
 #[test]
