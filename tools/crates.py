@@ -4,9 +4,11 @@ import re
 import subprocess
 import sys
 
+from edits import functions_in
+
 PARTS = ("src", "specs", "proofs")
-# What a check of a large family takes, in bytes.
-MEMORY_OF_A_CHECK = 2_500_000_000
+# What a check over cut sources of all crates takes, in bytes.
+MEMORY_OF_A_CHECK = 3_500_000_000
 
 
 class Crate:
@@ -19,6 +21,8 @@ class Crate:
         self.of_kit = ["std", *(it for it in uses if it not in crates)]
         self.rlib = f"{self.folder}/out/rlib/{name}.rlib"
         self.is_program = os.path.isfile(f"{self.folder}/src/main.rt")
+        # a folder with sources to check crates above over, in the place of the proved library
+        self.source = ""
 
     def below(self):
         """The repository's libraries below this crate, each after those that it uses."""
@@ -41,17 +45,31 @@ class Crate:
         return os.stat(f"{self.rlib}/format").st_ctime > changed
 
     def words(self):
-        """The words of a check or a build of this crate, over its libraries."""
+        """The words of a check of this crate over the libraries below it: each proved, or the sources that it has in place
+        of that."""
+        kit = dict.fromkeys([*self.of_kit, *(it for lib in self.below() if lib.source for it in ["core", *lib.of_kit])])
         words = ["--crate-name", self.name, f"src/{'main' if self.is_program else 'lib'}.rt"]
-        for name in self.of_kit:
+        for name in kit:
             words += ["--extern", f"{name}={self.kit}/rlibs/{name}.rlib"]
         words += ["-L", f"dependency={self.kit}/rlibs"]
-        for dep in self.deps:
-            words += ["--extern", f"{dep.name}={dep.rlib}"]
-        for dep in self.below():
-            words += ["-L", f"dependency={os.path.dirname(dep.rlib)}"]
+        for lib in self.below():
+            words += lib.words_above(lib in self.deps or any(it.source and lib in it.deps for it in self.below()))
         words += ["--antt-project", f"{self.kit}/rattle/logic/antt-project.json"]
         return [*words, "--logic-built", f"{self.kit}/logic_built", "--links", f"{self.name}=", *self.kind]
+
+    def words_above(self, is_named):
+        """The words by which a crate above is checked over this one, whether a crate of sources names it or not."""
+        if self.source:
+            uses = ",".join(dict.fromkeys(["core", *self.of_kit, *(it.name for it in self.deps)]))
+            return ["--lib", f"{self.name}:{uses}={self.source}/src/lib.rt"]
+        words = ["-L", f"dependency={os.path.dirname(self.rlib)}"]
+        return [*words, "--extern", f"{self.name}={self.rlib}"] if is_named else words
+
+    def read_functions(self):
+        """Reads its sources, and the functions in them: {path: (file, function)}."""
+        self.texts = self.texts_of("src")
+        found = {file: functions_in(file, text) for file, text in self.texts.items()}
+        self.functions = {path: (file, it) for file, functions in found.items() for path, it in functions.items()}
 
     def texts_of(self, part):
         """The texts of the files below a part of its folder, by their paths."""

@@ -11,6 +11,7 @@ import re
 
 FN = re.compile(r'( *)(?:pub(?:\([^)]*\))? |const |unsafe |extern "C" )*fn (\w+)')
 ENSURES = re.compile(r" +ensures\b")
+CYCLE = re.compile(r" *#\[cycle\((\w+)\)\]")
 BLOCK = re.compile(r"( *)(?:pub(?:\([^)]*\))? |unsafe )*(impl|trait|mod)\b(.*)")
 HEADING = re.compile(r"## ([A-Za-z0-9_-]+)")
 EDIT_LINE = re.compile(r"(?:file|goal|at): \S+$|old: .|new:(?: |$)")
@@ -85,12 +86,13 @@ def text_of(folder, path):
 
 class Function:
     """A function with a body: the lines where its attributes begin and its body opens and ends, counted from 0. It is a law
-    if it does nothing and ensures something: its contract is a theorem."""
+    if it does nothing and ensures something: its contract is a theorem. Functions with one `cycle` have one proof."""
 
     def __init__(self, blocks, name, head, opening, end, lines):
         self.blocks, self.name, self.head, self.opening, self.end = blocks, name, head, opening, end
         self.lines = lines[opening + 1 : end]
         self.is_law = opening == end and any(ENSURES.match(it) for it in lines[head:opening])
+        self.cycle = next((it[1] for it in map(CYCLE.match, lines[head:opening]) if it), "")
 
     def has_line(self, number):
         """Whether a line, counted from 1, is one of its own."""

@@ -1,61 +1,67 @@
 #!/usr/bin/env python3
 """Tries the mutants of the crates: edits of the code that the prover has to refuse.
 
-usage: tools/mutants.py [--all | --ci] [--jobs N] [CRATE..]
+usage: tools/mutants.py [--jobs N] [CRATE..]
 
 The mutants of a crate are in the file crates/NAME/mutants.edits: for each a heading '## NAME', a line
 'file: src/FILE.rt', and then pairs of lines 'old: TEXT' and 'new: TEXT'. Each old text is in that file once; further pairs
 apply to what the earlier ones made. With no CRATE named, the mutants of all crates of crates.txt are tried.
 
 A mutant changes bodies of functions, which have to be refused, or something else. Then it names by lines 'at: PATH' the
-functions that have to be refused. Lines 'goal: NAME' name goals, by one of which it has to be refused. Mutants of different
-functions are tried together in one check of a copy of the crate, which looks at these functions and at what they call.
-Each has to be refused by a goal of such a function: told by a note at a line of the function, by an error of the goal's
-proof in that function's folder of proofs/, or as a goal that no search proved. A mutant that changes a definition of specs/,
-or was not refused in its place, is tried alone. Then a goal of a law counts too, which is a function with a contract and an
-empty body, and for a definition a lemma that a line 'goal: NAME' names, if these functions are not proved without it.
+functions that have to be refused. Lines 'goal: NAME' name goals, by one of which it has to be refused.
 
-That a proof by hand cannot be checked, since it names what the edit takes away or rests on one that does, refuses nothing:
-an edit that means the same as the code would do that too.
+A check judges these functions alone: all other bodies are cut, in the crate and in those below it, as tools/cut.py says. So
+nothing has to be proved before. A library that is proved (`rt all check`, `rt ci`) takes the place of its cut sources, since
+a check over it is several times as fast. Mutants of different functions are tried together. Each has to be refused by a goal
+of such a function: told by a note at a line of the function, by an error of the goal's proof in that function's folder of
+proofs/, or as a goal that no search proved. A mutant that changes a definition of specs/, or was not judged with the others,
+is tried alone. For a definition, a goal of a theorem counts too, which is a function with a contract and an empty body, and a
+lemma that a line 'goal: NAME' names, if these functions are not proved without it.
 
-The crates have to be proved here as they are, by `rt all check`, or in a clean clone by `rt ci`.
+What was told of a mutant is one of these words. These refuse it:
 
-What was refused is written to crates/NAME/mutants.verdicts, which belongs to the repository (tools/verdicts.py has the
-format). A mutant with a verdict there is tried again only if its edit, its crate, a crate below, the prover or these tools
-have changed. With --all, all are tried. With --ci, a tenth of those that have verdicts is tried too, chosen by the commit,
-so that each is tried time and again, and nothing is written.
+    false      the facts known there allow values at which the goal is false
+    open       the search tried all that it tries, and did not prove the goal
+    by hand    the goal's proof by hand fails, and without that proof the search fails too
 
-The last line is 'N passed, M failed', and the status 0 only if all mutants are refused, and the verdicts are those that
-this tool wrote.
+These do not:
+
+    limit      the search gave up at one of its limits
+    lost name  a proof by hand names what the edit takes away, or rests on one that does, and without that proof the facts
+               allow no such values: an edit that means the same as the code would do that too
+
+The file equivalent.edits beside this one has edits that mean the same as the code, of files 'crates/NAME/FILE'. Each is tried
+with the mutants of its crate, and must not be refused.
+
+The last line is 'N passed, M failed', and the status 0 only if all mutants are refused, and no equivalent edit is.
 """
 import argparse
 import contextlib
 import os
-import re
-import shutil
-import subprocess
 import sys
 import tempfile
-import threading
-from concurrent.futures import FIRST_COMPLETED, ThreadPoolExecutor, wait
+from collections import Counter
+from concurrent.futures import ThreadPoolExecutor
 
 sys.dont_write_bytecode = True
 sys.path.insert(0, os.path.dirname(os.path.realpath(__file__)))
-from checks import check  # noqa: E402
+from checks import BY_HAND, FALSE, LOST, OPEN, check  # noqa: E402
 from crates import crates_of, kit_folder, lanes  # noqa: E402
+from cut import cut_crate, without_answers  # noqa: E402
 from edits import EditError, edited_texts, entries_of, functions_in, values_of  # noqa: E402
-from verdicts import Verdicts, judges, sum_of  # noqa: E402
 
 # How many mutants one check has at most: so that no check goes on long after all others.
-MOST = 32
+MOST = 48
+# What a goal that is not proved has to show to refuse a mutant.
+REFUSE = (FALSE, OPEN, BY_HAND)
 
 
 class Mutant:
     """An edit. Its bodies are those of the functions that it changes, {path: lines}, or {} if it changes something else.
-    Its seats are the functions that have to be refused."""
+    Its seats are the functions that have to be refused, or must not be if it is equivalent to the code."""
 
-    def __init__(self, crate, name, edit):
-        self.crate, self.name, self.edit = crate, name, edit
+    def __init__(self, crate, name, edit, is_equivalent=False):
+        self.crate, self.name, self.edit, self.is_equivalent = crate, name, edit, is_equivalent
         self.texts = edited_texts(edit, crate.folder)
         self.goals, places = values_of(edit, "goal"), values_of(edit, "at")
         self.bodies = self.changed_bodies()
@@ -77,15 +83,6 @@ class Mutant:
             bodies |= {path: it.lines for path, it in now.items() if it.lines != was[path].lines}
         return bodies
 
-    def lines(self):
-        """How many lines the functions have that have to be refused."""
-        return sum(len(self.crate.functions[it][1].lines) + 1 for it in self.seats)
-
-    def functions(self, texts):
-        """The functions of the crate with these texts in the place of its own."""
-        changed = ((file, functions_in(file, text)) for file, text in texts.items())
-        return self.crate.functions | {path: (file, it) for file, found in changed for path, it in found.items()}
-
 
 def without_bodies(text, functions):
     lines = text.split("\n")
@@ -99,6 +96,15 @@ class Batch:
 
     def __init__(self, mutant):
         self.mutants, self.texts = [mutant], mutant.texts
+
+    def seats(self):
+        return [*dict.fromkeys(path for it in self.mutants for path in it.seats)]
+
+    def whole(self):
+        """The functions whose bodies are not cut: those to be judged, those that are changed, and for a definition theorems."""
+        functions = self.mutants[0].crate.functions
+        laws = {path for path, (_, it) in functions.items() if it.is_law and self.mutants[0].is_of_specs}
+        return laws | {path for it in self.mutants for path in (*it.seats, *it.bodies)}
 
     def takes(self, mutant):
         """Takes the mutant in, if it goes with the others."""
@@ -122,38 +128,24 @@ def batches_of(mutants):
 
 
 class Trial:
-    """The mutants of one crate: those whose verdicts hold, those to be tried, and what came of them."""
+    """The mutants of one crate, and what came of them. Its checks run one after another, each on what those before found."""
 
-    def __init__(self, crate, judged_by, how, room):
-        self.crate, self.how, self.lock = crate, how, threading.Lock()
-        # what `rt check` kept, or else the first check of the crate
-        self.work_kept = next(filter(os.path.isdir, [f"{crate.folder}/out/incremental"]), f"{room}/{crate.name}")
-        self.verdicts = Verdicts(crate, judged_by)
-        self.names, self.kept, self.mutants, self.refused = [], {}, [], {}
-        self.failed, self.work, self.checks, self.open, self.later = 0, 0.0, 0, 0, []
-        crate.texts = crate.texts_of("src")
-        functions = {file: functions_in(file, text) for file, text in crate.texts.items()}
-        crate.functions = {path: (file, it) for file, found in functions.items() for path, it in found.items()}
-        if self.verdicts.wrong and how.is_ci:
-            again = f"run tools/mutants.py {crate.name}, and commit what it writes"
-            return self.fails("mutants.verdicts", f"{self.verdicts.wrong}: {again}")
+    def __init__(self, crate, room):
+        self.crate, self.kept = crate, f"{room}/kept/{crate.name}"
+        self.mutants, self.shown, self.passed, self.failed = [], Counter(), 0, 0
+        self.work, self.checks, self.by_hand = 0.0, 0, {}
+        os.makedirs(self.kept)
         with open(f"{crate.folder}/mutants.edits", encoding="utf-8") as file:
             for it in entries_of(file.read()):
-                self.take_in(*it)
+                self.take_in("mutants.edits", *it)
 
-    def take_in(self, line, name, edit, wrong):
+    def take_in(self, list_name, line, name, edit, wrong, is_equivalent=False):
         try:
             if wrong:
                 raise EditError(wrong)
-            mutant = Mutant(self.crate, name, edit)
+            self.mutants.append(Mutant(self.crate, name, edit, is_equivalent))
         except EditError as error:
-            return self.fails(name, f"BAD EDIT: mutants.edits:{line}: {error}")
-        self.names.append(name)
-        goal = self.verdicts.goal_of(name, edit)
-        if goal:
-            self.kept[name] = (edit, goal)
-        if not goal or self.how.is_again(f"{self.crate.name}/{name}"):
-            self.mutants.append(mutant)
+            self.fails(name, f"BAD EDIT: {list_name}:{line}: {error}")
 
     def say(self, name, text):
         print(f"{self.crate.name}/{name}: {text}", flush=True)
@@ -162,159 +154,131 @@ class Trial:
         self.failed += 1
         self.say(name, text)
 
-    def passes(self, mutant, line, goal):
-        """Takes the line and the goal that refuse a mutant."""
-        with self.lock:
-            self.refused[mutant.name] = (mutant.edit, goal)
-        self.say(mutant.name, f"refused: {line[:160]}")
+    def passes(self, name, text):
+        self.passed += 1
+        self.say(name, text)
 
-    def falls(self, mutant, text):
-        """Takes why a mutant is not refused."""
-        with self.lock:
-            if self.kept.pop(mutant.name, None):
-                text += f"; its verdict in mutants.verdicts is wrong: mend it, then run tools/mutants.py {self.crate.name}"
-            self.fails(mutant.name, text)
+    def judge(self, mutant, told, shows=None):
+        """Takes what refuses a mutant, or what was told of it if nothing does, or None, and what that shows."""
+        shows = shows or told and told.shows
+        if mutant.is_equivalent and shows in REFUSE:
+            self.fails(mutant.name, f"REFUSED ({shows}), though it means the same as the code: {told.line[:160]}")
+        elif mutant.is_equivalent:
+            self.passes(mutant.name, f"not refused ({shows or 'proved'}), as it means the same as the code")
+        elif not told:
+            self.fails(mutant.name, f"NOT REFUSED: {' and '.join(mutant.seats)} is still proved with this edit")
+        elif shows not in REFUSE:
+            self.fails(mutant.name, f"NOT REFUSED ({shows}): {told.line[:240]}")
+        else:
+            self.shown[shows] += 1
+            self.passes(mutant.name, f"refused ({shows}): `{told.goal}`: {told.line[:160]}")
 
-    def check(self, texts, seats):
-        answer = check(self.crate, texts, [*dict.fromkeys(seats)], self.work_kept)
-        with self.lock:
-            self.work, self.checks = self.work + answer.seconds, self.checks + 1
+    def check(self, batch, proofs=None):
+        answer = check(self.crate, batch.texts, batch.seats(), batch.whole(), self.kept, proofs)
+        self.work, self.checks = self.work + answer.seconds, self.checks + 1
         return answer
 
-    def tasks(self):
-        """Its first tasks, each a check of a batch, with the seconds that it may take: those of last time, by the lines of
-        the functions. If no earlier check kept any work, one goes before the others, which begin with what it keeps."""
-        batches = batches_of(self.mutants)
-        self.open = len(batches)
-        lines = [sum(it.lines() for it in batch.mutants) for batch in batches]
-        each = max(1, self.verdicts.seconds) / (sum(lines) or 1)
-        tasks = [(each * length, self, batch) for length, batch in zip(lines, batches)]
-        tasks.sort(key=lambda it: it[0])
-        if not os.path.isdir(self.work_kept):
-            self.later, tasks = tasks[:-1], tasks[-1:]
-        return tasks
-
-    def do(self, batch):
-        """Does a task, and returns those that waited for it."""
-        self.try_together(batch)
-        with self.lock:
-            self.open -= 1
-            tasks, self.later = self.later, []
-            if not self.open:
-                self.end()
-        return tasks
+    def run(self):
+        for batch in batches_of(self.mutants):
+            self.try_together(batch)
+        for batch in batches_of([mutant for mutant, _ in self.by_hand.values()]):
+            self.try_without_answers(batch)
+        shown = ", ".join(f"{number} {it}" for it, number in sorted(self.shown.items()))
+        print(f"== {self.crate.name}: {shown}; {self.checks} checks, {self.work / 60:.1f} processor minutes", flush=True)
 
     def try_together(self, batch):
         """Tries mutants in one check that tells them apart. Those that it does not settle are tried alone."""
-        texts, mutants = batch.texts, batch.mutants
-        if len(mutants) == 1:
-            return self.try_alone(mutants[0])
-        answer = self.check(texts, [path for it in mutants for path in it.seats])
-        if answer.why:
+        answer, is_alone = self.check(batch), len(batch.mutants) == 1
+        if answer.why and not is_alone:
             # one of them does not compile, or is not read
-            for half in (mutants[::2], mutants[1::2]):
+            for half in (batch.mutants[::2], batch.mutants[1::2]):
                 for it in batches_of(half):
                     self.try_together(it)
             return
-        functions = mutants[0].functions(texts)
-        for mutant in mutants:
+        for mutant in batch.mutants:
             try:
-                self.passes(mutant, *answer.refusal(mutant, functions))
+                told = answer.told_of_mutant(mutant, is_alone)
             except EditError as error:
-                self.say(mutant.name, f"is tried alone: {str(error)[:240]}")
-                self.try_alone(mutant)
+                if is_alone:
+                    self.fails(mutant.name, f"BAD EDIT: {error}")
+                else:
+                    self.say(mutant.name, f"is tried alone: {str(error)[:240]}")
+                    self.try_together(Batch(mutant))
+                continue
+            fails_by_hand = any(it.goal and it.shows in (BY_HAND, LOST) for it in told)
+            if fails_by_hand and told[0].shows not in (FALSE, OPEN):
+                self.by_hand[mutant.name] = (mutant, told)
+            else:
+                self.judge(mutant, told[0] if told else None)
 
-    def try_alone(self, mutant):
-        answer = self.check(mutant.texts, mutant.seats)
-        if answer.is_proved:
-            return self.falls(mutant, f"NOT REFUSED: {' and '.join(mutant.seats)} is still proved with this edit")
-        try:
-            self.passes(mutant, *answer.refusal(mutant, mutant.functions(mutant.texts), is_alone=True))
-        except EditError as error:
-            self.falls(mutant, f"BAD EDIT: {error}")
-
-    def end(self):
-        """Says what was done, and writes the verdicts, with the seconds if all were tried."""
-        is_all = len(self.mutants) == len(self.names)
-        if not self.how.is_ci and (self.mutants or {*self.verdicts.refused} - {*self.names}):
-            self.verdicts.write({**self.kept, **self.refused}, round(self.work) if is_all else self.verdicts.seconds)
-        changed = " and ".join(self.verdicts.changed)
-        tried = f"{len(self.mutants)} mutants tried{f', since {changed} changed' if changed and self.mutants else ''}"
-        if self.mutants:
-            tried += f"; {self.checks} checks, {self.work / 60:.1f} processor minutes"
-        print(f"== {self.crate.name}: {len(self.names) - len(self.mutants)} verdicts kept, {tried}", flush=True)
-        if not self.work_kept.startswith(self.crate.folder):
-            shutil.rmtree(self.work_kept, ignore_errors=True)
-
-
-class How:
-    """Which mutants with verdicts are tried again: all, none, or as CI does a tenth, chosen by the commit."""
-
-    def __init__(self, is_all=False, commit=None):
-        self.is_all, self.commit, self.is_ci = is_all, commit, commit is not None
-
-    def is_again(self, name):
-        return self.is_all or self.is_ci and int(sum_of(self.commit, name), 16) % 10 == 0
+    def try_without_answers(self, batch):
+        """Tries mutants again whose proofs by hand fail, without these proofs. A goal whose proof does not fit has to fail so
+        too. If its proof lost a name, only values at which the goal is false refuse the mutant."""
+        goals = {it: [told.goal for told in self.by_hand[mutant.name][1]] for mutant in batch.mutants for it in mutant.seats}
+        proofs = without_answers(self.crate, goals)
+        answer = self.check(batch, proofs)
+        for mutant in batch.mutants:
+            told = self.by_hand[mutant.name][1]
+            shown = {it.goal: it.shows for it in answer.told_of(mutant.seats)}
+            false = [it for it in told if shown.get(it.goal) == FALSE]
+            if answer.why:
+                self.fails(mutant.name, f"BAD EDIT: without its proof by hand, {answer.why}")
+            elif false:
+                self.judge(mutant, false[0], FALSE)
+            elif any(it.goal in shown or it.shows == LOST for it in told):
+                self.judge(mutant, told[0])
+            else:
+                self.judge(mutant, None)
 
 
-def trials_of(root, names, kit, how, room):
+def trials_of(root, names, kit, room):
     """The trials of the crates of these names, or of all, that have mutants."""
-    crates, judged_by = crates_of(root, kit), judges()
+    crates = crates_of(root, kit)
     unknown = [it for it in names if it not in crates]
     if unknown:
         sys.exit(f"mutants: crates.txt names no crate {unknown[0]}")
+    for it in crates.values():
+        it.read_functions()
+        if not all(lib.is_built() for lib in [*it.below(), it]):
+            it.source = f"{room}/below/{it.name}"
+            cut_crate(it, it.source)
     chosen = [it for it in crates.values() if not names or it.name in names]
-    found = [Trial(it, judged_by, how, room) for it in chosen if os.path.isfile(f"{it.folder}/mutants.edits")]
-    lacking = [it.name for trial in found if trial.mutants for it in trial.crate.below() if not it.is_built()]
-    if lacking:
-        sys.exit(f"mutants: {lacking[0]} is not proved here as it is: run rt all check")
-    return found
+    return [Trial(it, room) for it in chosen if os.path.isfile(f"{it.folder}/mutants.edits")]
 
 
-def run_tasks(tasks, jobs):
-    """Runs tasks side by side, the longest first, and those that waited for them."""
-    running = set()
-    with ThreadPoolExecutor(jobs) as pool:
-        try:
-            while tasks or running:
-                tasks.sort(key=lambda it: it[0])
-                while tasks and len(running) < jobs:
-                    _, trial, batch = tasks.pop()
-                    running.add(pool.submit(trial.do, batch))
-                done, running = wait(running, return_when=FIRST_COMPLETED)
-                tasks += [task for it in done for task in it.result()]
-        except BaseException:
-            pool.shutdown(wait=False, cancel_futures=True)
-            raise
+def take_in_equivalents(trials, path):
+    """Gives the equivalent edits to the trials of their crates."""
+    with open(path, encoding="utf-8") as file:
+        for line, name, edit, wrong in entries_of(file.read()):
+            for it in trials:
+                own = edit.replace(f"file: crates/{it.crate.name}/", "file: ")
+                if own != edit:
+                    it.take_in(os.path.basename(path), line, name, own, wrong, is_equivalent=True)
 
 
-def try_mutants(root, names, kit, how, jobs=0):
+def try_mutants(root, names, kit, jobs=0, equivalents=""):
     with tempfile.TemporaryDirectory(prefix="mutants-") as room:
-        trials = trials_of(root, names, kit, how, room)
-        for it in trials:
-            if not it.mutants:
-                it.end()
-        run_tasks([task for it in trials if it.mutants for task in it.tasks()], lanes(jobs))
-    passed = sum(len({**it.kept, **it.refused}) for it in trials)
-    failed = sum(it.failed for it in trials)
-    tried, work = sum(len(it.mutants) for it in trials), sum(it.work for it in trials)
-    print(f"mutants: {tried} tried, {work / 60:.1f} processor minutes")
+        trials = trials_of(root, names, kit, room)
+        if equivalents:
+            take_in_equivalents(trials, equivalents)
+        # (those of most checks first)
+        with ThreadPoolExecutor(lanes(jobs)) as pool:
+            [*pool.map(Trial.run, sorted(trials, key=lambda it: -len(it.mutants)))]
+    passed, failed = sum(it.passed for it in trials), sum(it.failed for it in trials)
+    shown, work = sum((it.shown for it in trials), Counter()), sum(it.work for it in trials)
+    counts = ", ".join(f"{number} {it}" for it, number in sorted(shown.items()))
+    print(f"mutants: {sum(len(it.mutants) for it in trials)} tried ({counts}), {work / 60:.1f} processor minutes")
     print(f"{passed} passed, {failed} failed", flush=True)
     return 1 if failed else 0
 
 
 def main():
     reader = argparse.ArgumentParser(description=__doc__, formatter_class=argparse.RawDescriptionHelpFormatter)
-    reader.add_argument("--all", action="store_true", help="tries all")
-    reader.add_argument("--ci", action="store_true", help="tries a tenth of those that have verdicts, and writes nothing")
     reader.add_argument("--jobs", type=int, default=0, help="how many checks run at once")
     reader.add_argument("crates", nargs="*")
     given = reader.parse_args()
-    root = os.path.dirname(os.path.dirname(os.path.realpath(__file__)))
-    commit = None
-    if given.ci:
-        commit = subprocess.run(["git", "rev-parse", "HEAD"], cwd=root, stdout=subprocess.PIPE, text=True).stdout
-    return try_mutants(root, given.crates, kit_folder(), How(given.all, commit), given.jobs)
+    here = os.path.dirname(os.path.realpath(__file__))
+    return try_mutants(os.path.dirname(here), given.crates, kit_folder(), given.jobs, f"{here}/equivalent.edits")
 
 
 if __name__ == "__main__":

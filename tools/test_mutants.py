@@ -1,5 +1,5 @@
 #!/usr/bin/env python3
-"""Tests of tools/mutants.py: how it reads sources, edits and verdicts, and what it says of the mutants of a small crate.
+"""Tests of tools/mutants.py: how it reads and cuts sources, and what it says of the mutants of a small crate.
 
 The last line is 'N passed, M failed', and the status 0 only if nothing failed.
 """
@@ -15,9 +15,9 @@ import unittest.mock
 sys.dont_write_bytecode = True
 sys.path.insert(0, os.path.dirname(os.path.realpath(__file__)))
 import checks  # noqa: E402
+import cut  # noqa: E402
 import edits  # noqa: E402
 import mutants  # noqa: E402
-import verdicts  # noqa: E402
 
 SOURCE = """\
 pub trait Size: Sized {
@@ -115,32 +115,56 @@ returns c = omega (arith, ends c, c.next-i-end.ensures)
 # `after_next` does what it did, but calls a function that is refused in the same check; and of two that do what `walk` did,
 # only its proof by hand knows nothing. So it does of one that walks less far: that says nothing of the contract.
 EDITS = {
-    "adds_a_number_to_half": ("old: number / 2\nnew: number / 2 + number", "refused: src/lib.rt"),
+    "adds_a_number_to_half": ("old: number / 2\nnew: number / 2 + number", "refused (false): `overflow_add-result`: src/lib.rt"),
     "adds_in_another_order": ("old: next(number) + 1\nnew: 1 + next(number)", "NOT REFUSED: after_next is still proved"),
     "does_not_apply": ("old: number / 4\nnew: 1", "BAD EDIT: mutants.edits:11: its old text is in src/lib.rt 0 times"),
     "does_not_compile": ("old: number / 2\nnew: numeral / 2", "BAD EDIT: it did not reach the prover"),
-    "steps_by_one": ("old: u16::from(number) + STEP\nnew: u16::from(number) + 1", "refused: src/lib.rt"),
+    "steps_by_one": ("old: u16::from(number) + STEP\nnew: u16::from(number) + 1", "refused (false): `returns`: src/lib.rt"),
     "takes_a_third": ("old: number / 2\nnew: number / 3", "NOT REFUSED: half is still proved"),
     "takes_another_step": ("old: STEP: u16 = 2\nnew: STEP: u16 = 1", "BAD EDIT: mutants.edits:31: it changes no body"),
-    "takes_longer_steps": ("at: next\nold: STEP: u16 = 2\nnew: STEP: u16 = 3", "refused: src/lib.rt"),
+    "takes_longer_steps": ("at: next\nold: STEP: u16 = 2\nnew: STEP: u16 = 3", "refused (false): `returns`: src/lib.rt"),
     "takes_longer_steps_below": (
         "at: after_next\nold: STEP: u16 = 2\nnew: STEP: u16 = 3",
-        "BAD EDIT: the check refuses no goal of after_next, but says: note: src/lib.rt",
+        "NOT REFUSED: after_next is still proved",
     ),
-    "walks_a_step_more": ("old: walked + 1\nnew: walked + 2", "refused: ./proofs/walk/Answers.antt"),
+    "walks_a_step_more": ("old: walked + 1\nnew: walked + 2", "refused (false): `returns`: ./proofs/walk/Answers.antt"),
     "walks_as_far": (
         "old: 0..next(number)\nnew: 0..next(number).saturating_sub(0)",
-        "BAD EDIT: this says little of the contract: ./proofs/walk/Answers.antt",
+        "NOT REFUSED (lost name): ./proofs/walk/Answers.antt",
     ),
     "walks_as_far_by_another_name": (
         "old: let mut walked = 0\nnew: let mut went = 0\nold: walked = i + 1\nnew: went = i + 1\nold: walked + 1\nnew: went + 1",
-        "BAD EDIT: this says little of the contract: ./proofs/walk/Invariants.antt",
+        "NOT REFUSED (lost name): ./proofs/walk/Invariants.antt",
     ),
     "walks_less_far": (
         "old: 0..next(number)\nnew: 0..next(number).saturating_sub(1)",
-        "BAD EDIT: this says little of the contract: ./proofs/walk/Answers.antt",
+        "NOT REFUSED (lost name): ./proofs/walk/Answers.antt",
     ),
 }
+
+
+# Edits of it that mean the same, or say so.
+EQUIVALENT = {
+    "adds_one_first": ("old: walked + 1\nnew: 1 + walked", "not refused (proved), as it means the same"),
+    "halves_in_two_steps": ("old: number / 2\nnew: let halved = number / 2; halved", "not refused (proved), as it means the same"),
+    "means_something_else": ("old: next(number) + 1\nnew: next(number) + 2", "REFUSED ("),
+}
+
+CYCLE = """\
+#[cycle(walk)]
+fn down(n: u8) -> u8 {
+    up(n)
+}
+
+#[cycle(walk)]
+fn up(n: u8) -> u8 {
+    down(n)
+}
+
+fn rest() -> u8 {
+    1
+}
+"""
 
 
 class Reading(unittest.TestCase):
@@ -216,7 +240,9 @@ class Answers(unittest.TestCase):
     ERROR = "./proofs/after_next/Answers.antt:3:5: error:"
 
     def answer(self, line, status=1, last="only=2 proved=0"):
-        return checks.Answer(status, f"{line}\n{last}\n", 1.0, ["src/lib.rt"])
+        text = f"{STEPS}pub fn law()\n    ensures {{ 1 ≡ 1 }}\n{{}}\n"
+        functions = {path: ("src/lib.rt", it) for path, it in edits.functions_in("src/lib.rt", text).items()}
+        return checks.Answer(status, f"{line}\n{last}\n", 1.0, ["src/lib.rt"], functions)
 
     def test_a_check_that_stops_early_refuses_nothing(self):
         unread = "src/lib.rt:4:5: error: `f`: `A` is not found;\n  its whole path can stand in a term only if"
@@ -227,136 +253,107 @@ class Answers(unittest.TestCase):
             (False, unread),
             (True, ""),
         ):
-            self.assertEqual(refuses, self.answer(*said).is_refused, said)
+            self.assertEqual(refuses, not self.answer(*said).why, said)
 
     def told(self, line, at=("after_next",), goals=(), **how):
-        """The goal by which a mutant of the crate `steps` is refused, or why it is not."""
-        text = f"{STEPS}pub fn law()\n    ensures {{ 1 ≡ 1 }}\n{{}}\n"
-        functions = {path: ("src/lib.rt", it) for path, it in edits.functions_in("src/lib.rt", text).items()}
-        mutant = mutants.Mutant.__new__(mutants.Mutant)
-        mutant.goals, mutant.seats, mutant.is_of_specs = goals, at, how.pop("is_of_specs", False)
+        """What refuses a mutant of the crate `steps`: what it shows, and the goal; or why nothing does."""
+        mutant = types.SimpleNamespace(goals=goals, seats=at, is_of_specs=how.pop("is_of_specs", False))
         try:
-            return self.answer(line).refusal(mutant, functions, **how)[1]
+            told = self.answer(line).told_of_mutant(mutant, **how)
+            return f"{told[0].shows}: {told[0].goal}" if told else "it is proved"
         except edits.EditError as error:
             return str(error)
 
     def test_a_function_is_refused_by_a_goal_of_its_own(self):
-        little = "this says little of the contract: ./proofs/after_next"
+        none, little = "the check refuses no goal of after_next", "this says little of the contract: src/lib.rt:12"
+        false, limit = "the facts known there allow values at which this goal is false", "`search` gave up at one of its limits"
         for line, goals, wanted in (
-            (f"{self.NOTE} (`returns-in-2`)", [], "returns-in-2"),
-            (f"{self.NOTE} (`returns-in-2`)", ["returns-in-2", "returns-in-3"], "returns-in-2"),
+            (f"{self.NOTE} (`returns-in-2`)", [], "open: returns-in-2"),
+            (f"{self.NOTE} (`returns-in-2`); {false}", ["returns-in-2", "returns-in-3"], "false: returns-in-2"),
+            (f"{self.NOTE} (`returns-in-2`); {limit}", [], "limit: returns-in-2"),
+            (f"{self.NOTE} (`one`); {limit}\n{self.NOTE} (`two`)\n{self.NOTE} (`three`); {limit}", [], "open: two"),
             (f"{self.NOTE} (`returns-in-21`)", ["returns-in-2"], "not by returns-in-2, but src/lib.rt:12"),
-            (f"{self.NOTE} (`overflow_add`): help: it calls `next`", [], "this says little of the contract: src/lib.rt:12"),
-            (self.NOTE, [], "this says little of the contract: src/lib.rt:12"),
-            (f"{self.ERROR} `returns`: the two types differ", [], "returns"),
+            (f"{self.NOTE} (`overflow_add`): help: it calls `next`", [], little),
+            (self.NOTE, [], little),
+            (f"{self.ERROR} `returns`: the two types differ", [], "by hand: returns"),
+            (f"{self.ERROR} `returns`: the two types differ\n{self.NOTE} (`b`); {limit}", [], "by hand: returns"),
             (f"{self.ERROR} `returns`: the two types differ", ["returns-in-2"], "not by returns-in-2, but ./proofs"),
-            ("./proofs/next/Answers.antt:3:5: error: `returns`: they differ", [], "the check refuses no goal of after_next"),
-            (f"{self.NOTE} (`returns`)".replace(":12:", ":6:"), [], "the check refuses no goal of after_next"),
-            ("note: src/lib.rt:12:1: it calls `steps::next`, which is not proved", [], "the check refuses no goal"),
-            ("fn steps::after_next: no proof: expected answers; `search` did not prove `a`, `b`", ["b"], "b"),
-            ("fn steps::after_next_2: no proof: `search` did not prove `returns`", [], "the check refuses no goal"),
-            (f"{self.ERROR} `returns`: `c.from` is not in scope", [], little),
-            (f"{self.ERROR} `returns`: record `A`\n  has no field `b`", [], little),
-            (f"{self.ERROR} `returns-in-2`: module `Goals` has no `returns-in-2` that can be named from here", [], little),
-            (f"{self.ERROR} 1 declaration that depends on `ends`, which was rejected, was not checked: returns", [], little),
-            (f"{self.ERROR} 2 declarations that depend on `A`, which was not admitted, were not checked: a, b", [], little),
-            (f"{self.ERROR} `ends`: `c.b` is not in scope\n{self.ERROR} `returns`: the two types differ", [], "returns"),
-            (f"{self.ERROR.replace('Answers', 'Invariants')} `invariant-loop-i`: the two types differ", [], little),
+            ("./proofs/next/Answers.antt:3:5: error: `returns`: they differ", [], none),
+            (f"{self.NOTE} (`returns`)".replace(":12:", ":6:"), [], none),
+            ("note: src/lib.rt:12:1: it calls `steps::next`, which is not proved", [], none),
+            ("fn steps::after_next: no proof: it calls `steps::next`, which is not proved", [], "it is proved"),
+            ("fn steps::after_next: no proof: expected answers; `search` did not prove `a`, `b`", ["b"], "open: b"),
+            (f"fn steps::after_next: no proof: `search` did not prove `a`\n{self.NOTE} (`a`); {limit}", [], "limit: a"),
+            ("fn steps::after_next: no proof: `search` did not prove `a`; it calls `steps::next`", ["steps::next"], "not by"),
+            ("fn steps::after_next_2: no proof: `search` did not prove `returns`", [], none),
+            (f"{self.ERROR} `returns`: `c.from` is not in scope", [], "lost name: "),
+            (f"{self.ERROR} `returns`: record `A`\n  has no field `b`", [], "lost name: "),
+            (f"{self.ERROR} `returns-in-2`: module `Goals` has no `returns-in-2` that can be named from here", [], "lost name: "),
+            (f"{self.ERROR} 1 declaration that depends on `ends`, which was rejected, was not checked: returns", [], "lost name: "),
+            (f"{self.ERROR} 2 declarations that depend on `A`, which was not admitted, were not checked: a, b", [], "lost name: "),
+            (f"{self.ERROR} `ends`: `c.b` is not in scope\n{self.ERROR} `returns`: the two types differ", [], "by hand: returns"),
+            (f"{self.ERROR.replace('Answers', 'Invariants')} `invariant-loop-i`: the two types differ", [], "lost name: "),
         ):
             self.assertTrue(self.told(line, goals=goals).startswith(wanted), (line, self.told(line, goals=goals)))
 
-    def test_alone_a_law_and_a_lemma_that_is_named_count_too(self):
+    def test_of_a_definition_a_law_and_a_lemma_that_is_named_count_too(self):
         law = self.NOTE.replace(":12:", f":{STEPS.count(chr(10)) + 1}:") + " (`returns`)"
         lemma = "./proofs/Steps.antt:3:5: error: `shorter`: the two types differ\nfn steps::after_next: not proved"
         of_specs = {"is_alone": True, "is_of_specs": True}
-        none = "the check refuses no goal of after_next"
         for line, goals, how, wanted in (
-            (law, [], {}, none),
-            (law, [], {"is_alone": True}, "returns"),
-            (f"{self.NOTE} (`returns`)".replace(":12:", ":6:"), [], {"is_alone": True}, none),
-            (lemma, [], of_specs, "this says little of the contract: ./proofs/Steps"),
-            (lemma, ["shorter"], of_specs, "shorter"),
-            (lemma, ["shorter"], {"is_alone": True}, none),
-            (lemma.replace("not proved", "proved"), ["shorter"], of_specs, none),
-            (lemma.replace("the two types differ", "`x` has no field `y`"), ["shorter"], of_specs, "this says little"),
+            (law, [], {}, "the check refuses no goal of after_next"),
+            (law, [], of_specs, "open: returns"),
+            (lemma, [], of_specs, "the check refuses no goal of after_next, but says: fn steps::after_next: not proved"),
+            (lemma, ["shorter"], of_specs, "by hand: shorter"),
+            (lemma, ["shorter"], {"is_alone": True}, "the check refuses no goal of after_next"),
+            (lemma.replace("not proved", "proved"), ["shorter"], of_specs, "it is proved"),
+            (lemma.replace("the two types differ", "`x` has no field `y`"), ["shorter"], of_specs, "lost name: shorter"),
         ):
             self.assertTrue(self.told(line, goals=goals, **how).startswith(wanted), self.told(line, goals=goals, **how))
 
 
-class Keeping(unittest.TestCase):
-    EDIT = "file: src/lib.rt\nold: number / 2\nnew: number / 3\n"
+class Cutting(unittest.TestCase):
+    def test_bodies_are_cut_but_those_that_are_asked_for(self):
+        cut_text = cut.cut_text("src/pairs.rt", SOURCE, {"pairs::Pair::is_single"})
+        self.assertEqual(5, cut_text.count("unreachable!()"))
+        for kept in ("        self.len() == 1\n", "    fn bytes(&self) -> usize;\n", "    ensures one { 1 ≡ 1 }\n{\n    #[tactic(none)]\n    unreachable!()\n}\n"):
+            self.assertIn(kept, cut_text)
+        for gone in ("self.bytes() / 2", "Pair(1, 2)", "{}"):
+            self.assertNotIn(gone, cut_text)
+        self.assertIn("    ensures one { 1 ≡ 1 }\n{}\n", cut.cut_text("src/pairs.rt", SOURCE, {"pairs::law"}))
 
-    def kept(self, change=lambda root: None, judged_by=None):
-        """The goal of a verdict of the crate `steps`, once something has changed since, and what is told of that."""
+    def test_what_types_compute_and_tests_and_macros_stay(self):
+        macro = "macro_rules! pair {\n    () => {\n        fn pair() -> u8 {\n            2\n        }\n    };\n}\n"
+        self.assertEqual(macro, cut.cut_text("src/lib.rt", macro))
+        for head in ("pub const fn size() -> usize", "#[test]\nfn sizes()", "#[cfg(test)]\nfn size() -> usize"):
+            text = f"{head} {{\n    2\n}}\n"
+            self.assertEqual(text, cut.cut_text("src/lib.rt", text))
+        found = [f"walk::{it}" for it in ("down", "up", "rest")]
+        self.assertEqual(CYCLE, cut.cut_text("src/walk.rt", CYCLE, found))
+        self.assertNotIn("#[cycle", cut.cut_text("src/walk.rt", CYCLE))
+
+    def test_functions_that_are_proved_together_stay_together(self):
+        found = {path: ("src/walk.rt", it) for path, it in edits.functions_in("src/walk.rt", CYCLE).items()}
+        self.assertEqual({"walk::down", "walk::up"}, cut.with_cycles(found, {"walk::up"}))
+        self.assertEqual({"walk::rest"}, cut.with_cycles(found, {"walk::rest"}))
+        self.assertEqual({"walk/up", "walk/+walk"}, cut.folders_of(found, {"walk::up"}))
+
+    def test_a_copy_has_lemmas_and_proofs_of_what_is_whole(self):
         with tempfile.TemporaryDirectory(prefix="mutants-test-") as root:
-            for crate in ("low", "steps", "other"):
-                write(f"{root}/crates/{crate}/src/lib.rt", STEPS)
-            write(f"{root}/crates/steps/src/lib.rt", f"#[cfg(test)]\nmod tests;\n{STEPS}")
-            write(f"{root}/crates.txt", "steps: low\nlow: itoa\nother: low\n")
-            for crate in ("std", "itoa", "io"):
-                write(f"{root}/kit/rlibs/{crate}.rlib/format", f"rattle-build 1\nneeds core 7{crate}\n")
-            kept = verdicts.Verdicts(self.steps(root), {"logic": "1"})
-            kept.write({"half": (self.EDIT, "returns")}, 3)
-            change(root)
-            found = verdicts.Verdicts(self.steps(root), judged_by or {"logic": "1"})
-            return found.goal_of("half", self.EDIT), found.changed, bool(found.wrong)
-
-    @staticmethod
-    def steps(root):
-        verdicts.sum_of_kit_crate.cache_clear()
-        return mutants.crates_of(root, f"{root}/kit")["steps"]
-
-    def test_a_verdict_holds_while_nothing_changes_on_which_it_depends(self):
-        for path, changed in {
-            "crates/steps/stdin": [],
-            "crates/steps/src/tests.rt": [],
-            "crates/steps/src/tests/one.rt": [],
-            "crates/steps/src/tests_of_steps.rt": ["steps"],
-            "crates/low/src/tests.rt": ["low"],
-            "crates/low/src/tests/one.rt": ["low"],
-            "crates/other/src/lib.rt": [],
-            "crates/steps/src/lib.rt": ["steps"],
-            "crates/low/proofs/More.antt": ["low"],
-            "kit/rlibs/std.rlib/lang/src/lib.rt": ["std"],
-            "kit/rlibs/itoa.rlib/lang/antt/specs/One.antt": ["itoa"],
-            "kit/rlibs/itoa.rlib/lang/antt/made.json": [],
-            "kit/rlibs/io.rlib/lang/src/lib.rt": [],
-        }.items():
-            found = self.kept(lambda root, it=path: write(f"{root}/{it}", "more"))
-            self.assertEqual((None if changed else "returns", changed, False), found, path)
-        uses = "steps: low io\nlow: itoa\nother: low\n"
-        self.assertEqual((None, ["steps", "io"], False), self.kept(lambda root: write(f"{root}/crates.txt", uses)))
-        for line, changed in {"rattle-build 2\nneeds core 7std": [], "rattle-build 1\nneeds core 8": ["std"]}.items():
-            path = "kit/rlibs/std.rlib/format"
-            found = self.kept(lambda root, it=line, at=path: write(f"{root}/{at}", f"{it}\n"))
-            self.assertEqual(changed, found[1], line)
-
-    def test_a_verdict_holds_while_the_same_prover_and_tools_judge(self):
-        self.assertEqual((None, ["logic"], False), self.kept(judged_by={"logic": "2"}))
-        self.assertEqual(16, len(verdicts.judges()["tools"]))
-        for tool in verdicts.TOOLS:
-
-            def changed(path, tool=tool, read=verdicts.bytes_of):
-                return b"" if path.endswith(f"/{tool}") else read(path)
-
-            with unittest.mock.patch.object(verdicts, "bytes_of", changed):
-                found = verdicts.judges()["tools"]
-            self.assertNotEqual(verdicts.judges()["tools"], found, tool)
-        self.assertIn("verdicts.py", verdicts.TOOLS)
-
-    def test_a_file_of_verdicts_whose_lines_were_changed_holds_nothing(self):
-        changes = {"returns": "ends", "refused half": "refused whole", "\nsum ": "\n\nsum ", "seconds 3": "seconds 4"}
-        for old, new in changes.items():
-
-            def change(root, old=old, new=new):
-                path = f"{root}/crates/steps/mutants.verdicts"
-                write(path, verdicts.bytes_of(path).decode().replace(old, new))
-
-            self.assertEqual((None, ["mutants.verdicts"], True), self.kept(change), old)
-
-    def test_ci_chooses_a_tenth_by_the_commit(self):
-        one, two = ({it for it in range(1000) if mutants.How(commit=of).is_again(f"crate/{it}")} for of in ("1", "2"))
-        self.assertTrue(70 < len(one) < 130 and one != two)
+            listed = ("proofs/Steps.antt", "proofs/walk/Answers.antt", "proofs/half/Answers.antt", "specs/Answers.antt")
+            for path in listed:
+                write(f"{root}/crates/steps/{path}", f"pub one : goal.one\n\npub {path} : goal.two\n")
+            write(f"{root}/crates/steps/src/lib.rt", STEPS)
+            write(f"{root}/crates.txt", "steps:\n")
+            crate = mutants.crates_of(root, root)["steps"]
+            crate.read_functions()
+            cut.cut_crate(crate, f"{root}/copy", {"specs/Answers.antt": "new\n"}, {"walk"})
+            self.assertFalse(os.path.exists(f"{root}/copy/proofs/half"))
+            for path, text in {listed[0]: f"pub one : goal.one\n\npub {listed[0]} : goal.two\n", listed[3]: "new\n"}.items():
+                with open(f"{root}/copy/{path}", encoding="utf-8") as file:
+                    self.assertEqual(text, file.read())
+            left = {"proofs/walk/Answers.antt": f"pub {listed[1]} : goal.two\n"}
+            self.assertEqual(left, cut.without_answers(crate, {"walk": ["one", "other"]}))
 
 
 class Trying(unittest.TestCase):
@@ -365,52 +362,16 @@ class Trying(unittest.TestCase):
             write(f"{root}/crates.txt", "steps:  # no library but std\n")
             for path, text in {"src/lib.rt": STEPS, **PROOFS}.items():
                 write(f"{root}/crates/steps/{path}", text)
-            self.list(root, EDITS)
-            status, lines = self.run_on(root)
-            told = dict(it.split(": ", 1) for it in lines if it.startswith("steps/") and "is tried alone" not in it)
-            for name, (_, wanted) in EDITS.items():
-                self.assertTrue(told[f"steps/{name}"].startswith(wanted), f"{name}: {told[f'steps/{name}']}")
-            self.assertEqual((1, "4 passed, 9 failed"), (status, lines[-1]))
-            self.list(root, [name for name, (_, said) in EDITS.items() if said.startswith("refused")])
-            self.keeps_what_was_refused(root)
-            self.tells_what_is_wrong(root)
-
-    def keeps_what_was_refused(self, root):
-        """A run after that, of the mutants that were refused, checks nothing; CI checks those that it chooses."""
-        with unittest.mock.patch.object(mutants, "check", side_effect=AssertionError("a check")):
-            self.assertEqual("4 passed, 0 failed", self.run_on(root)[1][-1])
-            with self.assertRaisesRegex(AssertionError, "a check"), self.choosing("_one"):
-                self.run_on(root, commit="1")
-
-    def tells_what_is_wrong(self, root):
-        """CI tells of a verdict that is wrong, and of lines that were changed."""
-        proved = types.SimpleNamespace(is_proved=True, seconds=1.0)
-        with unittest.mock.patch.object(mutants, "check", return_value=proved), self.choosing("_one"):
-            status, lines = self.run_on(root, commit="1")
-        wrong = "steps/steps_by_one: NOT REFUSED: next is still proved with this edit; its verdict in mutants.verdicts is"
-        self.assertTrue(any(it.startswith(wrong) and "run tools/mutants.py steps" in it for it in lines), lines)
-        self.assertEqual((1, "3 passed, 1 failed"), (status, lines[-1]))
-        path = f"{root}/crates/steps/mutants.verdicts"
-        write(path, verdicts.bytes_of(path).decode().replace("refused steps_by_one", "refused steps_by_two"))
-        status, lines = self.run_on(root, commit="1")
-        wrong = "steps/mutants.verdicts: its lines are not those that tools/mutants.py wrote: run tools/mutants.py steps"
-        self.assertTrue(lines[0].startswith(wrong), lines)
-        self.assertEqual((1, "0 passed, 1 failed"), (status, lines[-1]))
-
-    @staticmethod
-    def choosing(end):
-        return unittest.mock.patch.object(mutants.How, "is_again", lambda _, name: name.endswith(end))
-
-    @staticmethod
-    def list(root, names):
-        listed = (f"## {name}\nfile: src/lib.rt\n{EDITS[name][0]}\n\n" for name in names)
-        write(f"{root}/crates/steps/mutants.edits", "".join(listed))
-
-    @staticmethod
-    def run_on(root, **how):
-        with contextlib.redirect_stdout(io.StringIO()) as said:
-            status = mutants.try_mutants(root, [], mutants.kit_folder(), mutants.How(**how))
-        return status, said.getvalue().splitlines()
+            for path, listed, folder in (("crates/steps/mutants", EDITS, "src"), ("equivalent", EQUIVALENT, "crates/steps/src")):
+                of = (f"## {name}\nfile: {folder}/lib.rt\n{edit}\n\n" for name, (edit, _) in listed.items())
+                write(f"{root}/{path}.edits", "".join(of))
+            with contextlib.redirect_stdout(io.StringIO()) as said:
+                status = mutants.try_mutants(root, [], mutants.kit_folder(), equivalents=f"{root}/equivalent.edits")
+        lines = said.getvalue().splitlines()
+        told = dict(it.split(": ", 1) for it in lines if it.startswith("steps/") and "is tried alone" not in it)
+        for name, (_, wanted) in {**EDITS, **EQUIVALENT}.items():
+            self.assertTrue(told.get(f"steps/{name}", "").startswith(wanted), f"{name}: {told[f'steps/{name}']}")
+        self.assertEqual((1, "6 passed, 10 failed"), (status, lines[-1]))
 
 
 def write(path, text):
