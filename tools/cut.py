@@ -82,7 +82,7 @@ def cut_crate(crate, folder, texts=None, whole=()):
 
 
 def without_answers(crate, goals):
-    """The texts of the files with proofs by hand of functions, without the answers for these goals, {path: goals}."""
+    """The texts of the files that have answers by hand for these goals, {path of a function: goals}, without the answers."""
     listed, texts = {}, {}
     for seat, names in goals.items():
         for folder in folders_of(crate.functions, [seat]):
@@ -91,5 +91,7 @@ def without_answers(crate, goals):
         if os.path.isfile(f"{crate.folder}/{path}"):
             answer = re.compile(rf"(?:--.*\n)*pub (?:{'|'.join(map(re.escape, sorted(names)))}) :")
             parts = text_of(crate.folder, path).split("\n\n")
-            texts[path] = "\n\n".join(it for it in parts if not answer.match(it))
+            left = [it for it in parts if not answer.match(it)]
+            if left != parts:
+                texts[path] = "\n\n".join(left)
     return texts

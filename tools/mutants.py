@@ -205,8 +205,9 @@ class Trial:
                     self.say(mutant.name, f"is tried alone: {str(error)[:240]}")
                     self.try_together(Batch(mutant))
                 continue
-            fails_by_hand = any(it.goal and it.shows in (BY_HAND, LOST) for it in told)
-            if fails_by_hand and told[0].shows not in (FALSE, OPEN):
+            answered = [it.goal for it in told if it.shows in (BY_HAND, LOST)]
+            is_settled = not told or told[0].shows in (FALSE, OPEN)
+            if not is_settled and without_answers(self.crate, dict.fromkeys(mutant.seats, answered)):
                 self.by_hand[mutant.name] = (mutant, told)
             else:
                 self.judge(mutant, told[0] if told else None)
@@ -219,13 +220,14 @@ class Trial:
         answer = self.check(batch, proofs)
         for mutant in batch.mutants:
             told = self.by_hand[mutant.name][1]
-            shown = {it.goal: it.shows for it in answer.told_of(mutant.seats)}
+            shown = {it.goal: it.shows for it in answer.told_of(mutant.seats) if it.goal}
             false = [it for it in told if shown.get(it.goal) == FALSE]
+            fails = any(it.goal in shown or it.shows == LOST for it in told)
             if answer.why:
                 self.fails(mutant.name, f"BAD EDIT: without its proof by hand, {answer.why}")
             elif false:
                 self.judge(mutant, false[0], FALSE)
-            elif any(it.goal in shown or it.shows == LOST for it in told):
+            elif fails or not shown and not {*mutant.seats} <= answer.accepted:
                 self.judge(mutant, told[0])
             else:
                 self.judge(mutant, None)
