@@ -1,6 +1,6 @@
 //! The last text that a program prints, and its exit status.
 
-ghost use Rattle.std.specs.Prelude.{◌≡◌, ◌≢◌, [], true, IsOk, OnOk};
+ghost use Rattle.std.specs.Prelude.{◌≡◌, ◌≢◌, [], true, false, IsOk, OnOk};
 ghost use Rattle.std.specs.Io.Buffered.{writer_buffer, writer_inner};
 ghost use Rattle.std.specs.Io.KnownBytes.{Appends};
 ghost use Rattle.program.specs.Printing.{PrintsOrFails, PrintsOrEnds, FlushesOrFails, no_memory_line, read_fault_line, write_fault_line};
@@ -33,6 +33,7 @@ pub fn finish<W: Write + Drop>(writer: &mut BufWriter<Watched<W>>, status: u8) -
     ensures written { FlushesOrFails (given W.contents writer.old) (passed_on W.contents writer.new)
         status result (has_failed (writer_inner writer.new)) }
     ensures empty { result ≢ 5 → writer_buffer writer.new ≡ [] }
+    ensures unfailed { has_failed (writer_inner writer.new) ≡ false → writer_buffer writer.new ≡ [] }
 {
     match writer.flush() {
         Ok(()) => status,
@@ -45,6 +46,7 @@ pub fn print<W: Write + Drop>(writer: &mut BufWriter<Watched<W>>, text: &str, st
     ensures written { PrintsOrFails (given W.contents writer.old) (passed_on W.contents writer.new)
         text.now status result (has_failed (writer_inner writer.new)) }
     ensures empty { result ≢ 5 → writer_buffer writer.new ≡ [] }
+    ensures unfailed { has_failed (writer_inner writer.new) ≡ false → writer_buffer writer.new ≡ [] }
 {
     if writer.write_all(text.as_bytes()).is_err() {
         return end_failed(writer);
@@ -57,6 +59,7 @@ pub fn print_no_memory<W: Write + Drop>(writer: &mut BufWriter<Watched<W>>) -> u
     ensures written { PrintsOrFails (given W.contents writer.old) (passed_on W.contents writer.new)
         no_memory_line 4 result (has_failed (writer_inner writer.new)) }
     ensures empty { result ≢ 5 → writer_buffer writer.new ≡ [] }
+    ensures unfailed { has_failed (writer_inner writer.new) ≡ false → writer_buffer writer.new ≡ [] }
 {
     print(writer, "no memory\n", 4)
 }
@@ -65,6 +68,7 @@ pub fn print_no_memory<W: Write + Drop>(writer: &mut BufWriter<Watched<W>>) -> u
 pub fn print_read_fault<W: Write + Drop>(writer: &mut BufWriter<Watched<W>>) -> u8
     ensures written { PrintsOrFails (given W.contents writer.old) (passed_on W.contents writer.new)
         read_fault_line 5 result (has_failed (writer_inner writer.new)) }
+    ensures unfailed { has_failed (writer_inner writer.new) ≡ false → writer_buffer writer.new ≡ [] }
 {
     print(writer, "read fault\n", 5)
 }

@@ -1,6 +1,6 @@
 //! Runs the program on an input.
 
-ghost use Rattle.std.specs.Prelude.{◌≡◌, ◌<◌, ◌≤◌, [], length, IfOk, if◌then◌else◌};
+ghost use Rattle.std.specs.Prelude.{◌≡◌, ◌<◌, ◌≤◌, [], false, length, IfOk, if◌then◌else◌};
 ghost use Rattle.std.specs.Result.{result_map_both};
 ghost use Rattle.std.specs.Io.Buffered.{writer_buffer, writer_contents, writer_inner};
 ghost use Rattle.program.specs.UntilEnd.{left_of};
@@ -50,6 +50,7 @@ pub fn run<S: ShowUnits, R: Read, W: Write + Drop>(
         (given W.contents writer.old) (passed_on W.contents writer.new) (has_failed (writer_inner writer.new)) }
     // Nothing is left in the buffer.
     ensures empty { result < 5 → writer_buffer writer.new ≡ [] }
+    ensures unfailed { has_failed (writer_inner writer.new) ≡ false → writer_buffer writer.new ≡ [] }
 {
     match show_input(alloc, shown, paper, raw, reader, writer) {
         Ok(status) => finish(writer, status),

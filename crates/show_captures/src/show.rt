@@ -1,6 +1,6 @@
 //! What is written for the units of an input.
 
-ghost use Rattle.std.specs.Prelude.{◌≡◌, ◌<◌, [], List, ℕ, IfOk, OnOk};
+ghost use Rattle.std.specs.Prelude.{◌≡◌, ◌<◌, [], List, ℕ, false, IfOk, OnOk};
 ghost use Rattle.std.specs.Io.Buffered.{writer_buffer, writer_inner};
 ghost use Rattle.std.specs.Io.KnownBytes.{Appends};
 ghost use Rattle.link_capture.specs.Told.{captured_of};
@@ -130,7 +130,8 @@ pub trait ShowUnits: ShowLines {
     ) -> u8
         ensures said { EndsBy (ends self.now) (breaks self.now) stop result (given W.contents writer.old)
             (passed_on W.contents writer.new) (has_failed (writer_inner writer.new)) }
-        ensures empty { result < 5 → writer_buffer writer.new ≡ [] };
+        ensures empty { result < 5 → writer_buffer writer.new ≡ [] }
+        ensures unfailed { has_failed (writer_inner writer.new) ≡ false → writer_buffer writer.new ≡ [] };
 }
 
 impl ShowUnits for Options {

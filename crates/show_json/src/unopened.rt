@@ -1,6 +1,6 @@
 //! What ends an input without an offset: a document with an error.
 
-ghost use Rattle.std.specs.Prelude.{◌≡◌, ◌<◌, [], Some, codes};
+ghost use Rattle.std.specs.Prelude.{◌≡◌, ◌<◌, [], Some, codes, false};
 ghost use Rattle.std.specs.Io.Buffered.{writer_buffer, writer_inner};
 ghost use Rattle.program.specs.Watched.{given, has_failed, passed_on};
 ghost use Rattle.show_json.specs.Place.{file_fields, file_of};
@@ -22,6 +22,7 @@ pub fn write_unopened<W: Write + Drop>(
     ensures written { EndsWithFault (file_fields (Some file.now)) (codes "cannot open") result (given W.contents writer.old)
         (passed_on W.contents writer.new) (has_failed (writer_inner writer.new)) }
     ensures empty { result < 5 → writer_buffer writer.new ≡ [] }
+    ensures unfailed { has_failed (writer_inner writer.new) ≡ false → writer_buffer writer.new ≡ [] }
 {
     let json = Json { file: Some(file) };
     finish_with(alloc, &mut Sheet::new(alloc), &json, "cannot open", writer)
@@ -38,6 +39,7 @@ pub(crate) fn finish_with<W: Write + Drop>(
     ensures written { EndsWithFault (file_fields (file_of json.now)) text.now result (given W.contents writer.old)
         (passed_on W.contents writer.new) (has_failed (writer_inner writer.new)) }
     ensures empty { result < 5 → writer_buffer writer.new ≡ [] }
+    ensures unfailed { has_failed (writer_inner writer.new) ≡ false → writer_buffer writer.new ≡ [] }
 {
     match write_fault(alloc, paper, json, None, text.as_bytes(), writer) {
         Ok(()) => finish(writer, 5),
