@@ -1,5 +1,5 @@
 -- What the program does with its inputs.
-use Rattle.std.specs.Prelude.{◌≡◌, ◌<◌, ◌≤◌, ℕ, max, Bool, true, not, ◌&&◌, ◌==◌, List, [], ◌∷◌, ◌++◌, Option, Some, None, codes}
+use Rattle.std.specs.Prelude.{◌≡◌, ◌≢◌, ◌<◌, ◌≤◌, ℕ, max, Bool, true, false, not, ◌&&◌, ◌==◌, List, [], ◌∷◌, ◌++◌, Option, Some, None, codes}
 use Rattle.std.specs.Io.KnownBytes.{Appends}
 use Rattle.link_show.specs.Quoted.{quoted}
 use Rattle.program.specs.Printing.{PrintsOrFails, no_memory_line, read_fault_line}
@@ -43,36 +43,42 @@ abbrev pub IsUnopened : Output → List ℕ → ℕ → Option (List ℕ) → Op
 IsUnopened (Text options) name status held_before held_after failed = PrintsOrFails held_before held_after (codes "cannot open" ++ 10 ∷ []) 5 status failed
 IsUnopened Json name status held_before held_after failed = EndsWithFault (file_fields (Some name)) (codes "cannot open") status held_before held_after failed
 
+-- what an input with this name has: a reader of standard input, if the name is `-`; otherwise a file that was opened
+pub data IsSource {I F : Type 0} (of_input : I → Option (List ℕ)) (of_file : F → Option (List ℕ)) (name : List ℕ) (left : Option (List ℕ)) : Type 0 where
+  FromInput : (reader : I) → name ≡ codes "-" → left ≡ of_input reader → IsSource of_input of_file name left
+  FromFile : (file : F) → name ≢ codes "-" → left ≡ of_file file → IsSource of_input of_file name left
+
 -- a run on the file with this name: its name, if it is text, and then the output for what it has, or that it cannot be opened; or
 -- the writer failed
-pub data RunsFile (output : Output) (raw : Bool) (name : List ℕ) (held_before held_after : Option (List ℕ)) (failed : Bool) (status : ℕ) : Type 0 where
-  Opened : (named left_before left_after : Option (List ℕ)) → Appends held_before named (name_line output name) → RunsOn output (Some name) raw left_before left_after named held_after failed status
-      → RunsFile output raw name held_before held_after failed status
-  Unopened : (named : Option (List ℕ)) → Appends held_before named (name_line output name) → IsUnopened output name status named held_after failed → RunsFile output raw name held_before held_after failed status
-  Failed : status ≡ 5 → failed ≡ true → RunsFile output raw name held_before held_after failed status
+pub data RunsFile (source : List ℕ → Option (List ℕ) → Type 0) (output : Output) (raw : Bool) (name : List ℕ) (held_before held_after : Option (List ℕ)) (failed : Bool) (status : ℕ) : Type 0 where
+  Opened : (named left_before left_after : Option (List ℕ)) → source name left_before → Appends held_before named (name_line output name) → RunsOn output (Some name) raw left_before left_after named held_after failed status
+      → RunsFile source output raw name held_before held_after failed status
+  Unopened : (named : Option (List ℕ)) → name ≢ codes "-" → Appends held_before named (name_line output name) → IsUnopened output name status named held_after failed → RunsFile source output raw name held_before held_after failed status
+  Failed : status ≡ 5 → failed ≡ true → RunsFile source output raw name held_before held_after failed status
 
 -- whether the file after one with this exit status is read: not after a failed allocation, or when the writer has failed
 abbrev pub goes_on : ℕ → Bool → Bool
 goes_on status failed = not (status == 4) && not failed
 
--- the files with these names were run on, each but the last so that the next is read; `status` is the greatest of their exit
--- statuses, and `more` says whether another one would be read
-pub data RunsFiles (output : Output) (raw : Bool) : List (List ℕ) → ℕ → Bool → Type 0 where
-  NoFile : (names : List (List ℕ)) (status : ℕ) (more : Bool) → names ≡ [] → status ≡ 0 → more ≡ true → RunsFiles output raw names status more
-  OneMore : (names : List (List ℕ)) (status : ℕ) (more : Bool) (front : List (List ℕ)) (name : List ℕ) (held_before held_after : Option (List ℕ)) (greatest last : ℕ) (failed : Bool) → RunsFiles output raw front greatest true → names ≡ front ++ name ∷ []
-      → RunsFile output raw name held_before held_after failed last → status ≡ max greatest last → more ≡ goes_on last failed → RunsFiles output raw names status more
+-- the files with these names were run on, each but the last so that the next is read: what is written for it follows what was
+-- written for those before it. `status` is the greatest of their exit statuses, and `more` says whether another one would be read
+pub data RunsFiles (source : List ℕ → Option (List ℕ) → Type 0) (output : Output) (raw : Bool) (held_before : Option (List ℕ)) : List (List ℕ) → Option (List ℕ) → Bool → ℕ → Bool → Type 0 where
+  NoFile : (names : List (List ℕ)) (held_after : Option (List ℕ)) (failed : Bool) (status : ℕ) (more : Bool) → names ≡ [] → held_after ≡ held_before → status ≡ 0 → more ≡ true → RunsFiles source output raw held_before names held_after failed status more
+  OneMore : (names : List (List ℕ)) (held_after : Option (List ℕ)) (failed : Bool) (status : ℕ) (more : Bool) (front : List (List ℕ)) (name : List ℕ) (between : Option (List ℕ)) (greatest last : ℕ)
+      → RunsFiles source output raw held_before front between false greatest true → names ≡ front ++ name ∷ [] → RunsFile source output raw name between held_after failed last
+      → status ≡ max greatest last → more ≡ goes_on last failed → RunsFiles source output raw held_before names held_after failed status more
 
 -- the first files of a task were run on, and all of them, unless one of them ended the run
-pub record RunsTask (output : Output) (raw : Bool) (names : List (List ℕ)) (status : ℕ) : Type 0 where
+pub record RunsTask (source : List ℕ → Option (List ℕ) → Type 0) (output : Output) (raw : Bool) (names : List (List ℕ)) (held_before held_after : Option (List ℕ)) (failed : Bool) (status : ℕ) : Type 0 where
   pub done : List (List ℕ)
   pub rest : List (List ℕ)
   pub more : Bool
   pub all : names ≡ done ++ rest
-  pub ran : RunsFiles output raw done status more
+  pub ran : RunsFiles source output raw held_before done held_after failed status more
   pub ended : more ≡ true → rest ≡ []
 
 -- a task without files: standard input
-pub record RunsInput (output : Output) (raw : Bool) (held_before held_after : Option (List ℕ)) (failed : Bool) (status : ℕ) : Type 0 where
-  pub left_before : Option (List ℕ)
+pub record RunsInput {I : Type 0} (of_input : I → Option (List ℕ)) (output : Output) (raw : Bool) (held_before held_after : Option (List ℕ)) (failed : Bool) (status : ℕ) : Type 0 where
+  pub reader : I
   pub left_after : Option (List ℕ)
-  pub ran : RunsOn output None raw left_before left_after held_before held_after failed status
+  pub ran : RunsOn output None raw (of_input reader) left_after held_before held_after failed status

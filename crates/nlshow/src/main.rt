@@ -15,12 +15,12 @@
 #[cfg(test)]
 mod tests;
 
-ghost use Rattle.std.specs.Prelude.{◌≡◌, ◌≢◌, ◌∷◌, ◌++◌, [], IfOk, MatchOption, OnOk, codes, map, string_bytes};
+ghost use Rattle.std.specs.Prelude.{◌≡◌, ◌≢◌, ◌∷◌, ◌++◌, [], false, IfOk, MatchOption, OnOk, codes, map, string_bytes};
 ghost use Rattle.std.specs.Option.{option_copied};
 ghost use Rattle.std.specs.Io.Buffered.{writer_buffer, writer_inner};
 ghost use Rattle.std.specs.Io.KnownBytes.{Appends};
 ghost use Rattle.link_show.specs.Quoted.{quoted};
-ghost use Rattle.nlshow.specs.Runs.{IsText, IsUnopened, RunsFile, RunsInput, RunsOn, RunsTask, goes_on, name_line};
+ghost use Rattle.nlshow.specs.Runs.{IsSource, IsText, IsUnopened, RunsFile, RunsInput, RunsOn, RunsTask, goes_on, name_line};
 ghost use Rattle.program.specs.Printing.{PrintsOrFails, PrintsOrEnds, no_memory_line};
 ghost use Rattle.program.specs.UntilEnd.{left_of};
 ghost use Rattle.program.specs.Watched.{given, has_failed, passed_on};
@@ -105,9 +105,11 @@ fn run_task<R: Files + Input + AllocGlobal, W: Write + Drop>(
     task: &Task,
     writer: &mut BufWriter<Watched<W>>,
 ) -> u8
-    ensures input { task.now.files.items ≡ [] → RunsInput task.now.output task.now.raw (given W.contents writer.old)
-        (passed_on W.contents writer.new) (has_failed (writer_inner writer.new)) result }
-    ensures files { task.now.files.items ≢ [] → RunsTask task.now.output task.now.raw (map string_bytes task.now.files.items) result }
+    ensures input { task.now.files.items ≡ [] → RunsInput R.Reader.remaining task.now.output task.now.raw
+        (given W.contents writer.old) (passed_on W.contents writer.new) (has_failed (writer_inner writer.new)) result }
+    ensures files { task.now.files.items ≢ [] → RunsTask (IsSource R.Reader.remaining R.File.remaining) task.now.output task.now.raw
+        (map string_bytes task.now.files.items) (given W.contents writer.old) (passed_on W.contents writer.new)
+        (has_failed (writer_inner writer.new)) result }
 {
     if task.files.is_empty() {
         return run_on(
@@ -147,8 +149,9 @@ fn run_on<R: Read, W: Write + Drop>(
     reader: &mut UntilEnd<R>,
     writer: &mut BufWriter<Watched<W>>,
 ) -> u8
-    ensures { RunsOn output (option_copied file.entry) raw (left_of R.remaining reader.old) (left_of R.remaining reader.new)
+    ensures run { RunsOn output (option_copied file.entry) raw (left_of R.remaining reader.old) (left_of R.remaining reader.new)
         (given W.contents writer.old) (passed_on W.contents writer.new) (has_failed (writer_inner writer.new)) result }
+    ensures unfailed { has_failed (writer_inner writer.new) ≡ false → writer_buffer writer.new ≡ [] }
 {
     match output {
         Output::Text(options) => run(alloc, &options, &mut (), raw, reader, writer),
@@ -167,8 +170,9 @@ fn run_file<R: Files + Input + AllocGlobal, W: Write + Drop>(
     name: &str,
     writer: &mut BufWriter<Watched<W>>,
 ) -> u8
-    ensures { RunsFile task.now.output task.now.raw name.now (given W.contents writer.old) (passed_on W.contents writer.new)
-        (has_failed (writer_inner writer.new)) result }
+    ensures run { RunsFile (IsSource R.Reader.remaining R.File.remaining) task.now.output task.now.raw name.now
+        (given W.contents writer.old) (passed_on W.contents writer.new) (has_failed (writer_inner writer.new)) result }
+    ensures unfailed { has_failed (writer_inner writer.new) ≡ false → writer_buffer writer.new ≡ [] }
 {
     if write_name(writer, task.output, name).is_err() {
         return end_failed(writer);
@@ -198,8 +202,9 @@ fn end_unopened<W: Write + Drop>(
     name: &str,
     writer: &mut BufWriter<Watched<W>>,
 ) -> u8
-    ensures { IsUnopened output name.now result (given W.contents writer.old) (passed_on W.contents writer.new)
+    ensures written { IsUnopened output name.now result (given W.contents writer.old) (passed_on W.contents writer.new)
         (has_failed (writer_inner writer.new)) }
+    ensures unfailed { has_failed (writer_inner writer.new) ≡ false → writer_buffer writer.new ≡ [] }
 {
     match output {
         Output::Text(_) => print(writer, "cannot open\n", 5),

@@ -1,6 +1,8 @@
-use Rattle.std.proofs.Common.{◌≡◌, false, Result, Ok, Err, OnOk, is_err, sym, ◌∙◌, true≢false}
+use Rattle.std.proofs.Common.{rules, ◌≡◌, ◌≢◌, false, codes, Result, Ok, Err, OnOk, is_err, sym, ◌∙◌, true≢false}
+use Rattle.program.specs.UntilEnd.{left_of}
 use Rattle.program.specs.Watched.{given}
-use Rattle.nlshow.specs.Runs.{Opened, Unopened}
+use Rattle.nlshow.specs.Runs.{FromInput, FromFile, Opened, Unopened}
+use Rattle.nlshow.proofs.Sources.{fresh}
 use Rattle.nlshow.proofs.run_file.Goals as goal
 
 -- what was written, if the call did not fail
@@ -8,14 +10,21 @@ unfailed : {T E P : Type 0} (r : Result T E) → is_err r ≡ false → OnOk r P
 unfailed (Ok x) e h = h
 unfailed (Err x) e h = absurd (true≢false e)
 
-pub returns-then-eq : goal.returns-then-eq
-returns-then-eq g c =
-    Opened (given g.W.Write.contents c.write_name.new.writer) _ _ (unfailed c.write_name.result (sym c.is_err.ensures.value ∙ c.if-is_err.false) c.write_name.ensures) c.run_on.ensures
+pub returns-then-eq-clause-run : goal.returns-then-eq-clause-run
+returns-then-eq-clause-run g c =
+    let dash : c.args.name.now ≡ codes "-" = search rules in
+    let remaining = g.R.Reader.Read.remaining in
+    Opened (given g.W.Write.contents c.write_name.new.writer) (left_of remaining c.new.result) (left_of remaining c.run_on.new.reader) (FromInput c.reader.result dash (fresh remaining c.new.result c.reader.result c.new.ensures.inner c.new.ensures.open))
+    (unfailed c.write_name.result (sym c.is_err.ensures.value ∙ c.if-is_err.false) c.write_name.ensures) c.run_on.ensures.run
 
-pub returns-in-Ok : goal.returns-in-Ok
-returns-in-Ok g c =
-    Opened (given g.W.Write.contents c.write_name.new.writer) _ _ (unfailed c.write_name.result (sym c.is_err.ensures.value ∙ c.if-is_err.false) c.write_name.ensures) c.run_on-in-Ok.ensures
+pub returns-in-Ok-clause-run : goal.returns-in-Ok-clause-run
+returns-in-Ok-clause-run g c =
+    let other : c.args.name.now ≢ codes "-" = search rules in
+    let remaining = g.R.File.Read.remaining in
+    Opened (given g.W.Write.contents c.write_name.new.writer) (left_of remaining c.new-in-Ok.result) (left_of remaining c.run_on-in-Ok.new.reader) (FromFile c.in-Ok.file other (fresh remaining c.new-in-Ok.result c.in-Ok.file c.new-in-Ok.ensures.inner c.new-in-Ok.ensures.open))
+    (unfailed c.write_name.result (sym c.is_err.ensures.value ∙ c.if-is_err.false) c.write_name.ensures) c.run_on-in-Ok.ensures.run
 
-pub returns-in-Err : goal.returns-in-Err
-returns-in-Err g c =
-    Unopened (given g.W.Write.contents c.write_name.new.writer) (unfailed c.write_name.result (sym c.is_err.ensures.value ∙ c.if-is_err.false) c.write_name.ensures) c.end_unopened.ensures
+pub returns-in-Err-clause-run : goal.returns-in-Err-clause-run
+returns-in-Err-clause-run g c =
+    let other : c.args.name.now ≢ codes "-" = search rules in
+    Unopened (given g.W.Write.contents c.write_name.new.writer) other (unfailed c.write_name.result (sym c.is_err.ensures.value ∙ c.if-is_err.false) c.write_name.ensures) c.end_unopened.ensures.written
