@@ -25,6 +25,7 @@ ghost use Rattle.program.specs.Printing.{PrintsOrFails, PrintsOrEnds, no_memory_
 ghost use Rattle.program.specs.UntilEnd.{left_of};
 ghost use Rattle.program.specs.Watched.{given, has_failed, passed_on};
 ghost use Rattle.show_lines.specs.Arguments.{IsError, IsRequest, IsWrong, reply_status, reply_text};
+ghost use Rattle.show_lines.specs.Command.{Asks};
 
 use link_json::Sheet;
 use link_show::write_quoted;
@@ -90,7 +91,7 @@ fn end_without_buffer<W: Write + Drop>(writer: &mut BufWriter<Watched<W>>, outpu
 fn request_of(alloc: Global, words: Option<Vec<String>>) -> Result<Request, AllocError>
     ensures { IfOk result (λ request. MatchOption words
         (IsWrong (codes "error: an argument is not UTF-8; read such a file by nlshow < FILE") request)
-        (λ _. IsRequest request)) }
+        (λ words. IsRequest request × Asks (map string_bytes words.items) request)) }
 {
     match words {
         Some(words) => parse(alloc, &words),

@@ -1,3 +1,4 @@
+pub mod Commands
 pub mod Cuts
 pub mod Kept
 pub mod Links

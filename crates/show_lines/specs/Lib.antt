@@ -1,4 +1,5 @@
 pub mod Arguments
+pub mod Command
 pub mod List
 pub mod Messages
 pub mod Pieces

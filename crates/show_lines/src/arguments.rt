@@ -1,8 +1,10 @@
 //! The command-line arguments.
 
-ghost use Rattle.std.specs.Prelude.{◌≡◌, ◌==◌, IfOk, option_map};
+ghost use Rattle.std.specs.Prelude.{◌≡◌, ◌==◌, [], false, IfOk, codes, map, option_map, string_bytes, unwrap_or};
 ghost use Rattle.std.specs.List.{before_first};
+ghost use Rattle.clap.specs.Words.{app_of, first_value, found_of, kind_of, matched_of, one_text, raw_values, rule_of};
 ghost use Rattle.show_lines.specs.Arguments.{IsRequest, IsWrong, RunsOrClashes, clash, clash_among, output_of};
+ghost use Rattle.show_lines.specs.Command.{Asks, IsCommand, IsFlag, IsFormatRule, IsReplyTo, files_rule, flag_rule, form_of};
 
 use crate::replies::{Reply, USAGE, VERSION};
 use clap::error::ErrorKind;
@@ -73,7 +75,8 @@ pub enum Request {
 ///
 /// `AllocError` if an allocation fails.
 pub fn parse(alloc: Global, arguments: &Vec<String>) -> Result<Request, AllocError>
-    ensures { IfOk result IsRequest }
+    ensures request { IfOk result IsRequest }
+    ensures asked { IfOk result (Asks (map string_bytes arguments.now.items)) }
 {
     match command(alloc)?.try_get_matches_from(arguments.as_slice()) {
         Ok(matches) => settled(
@@ -163,35 +166,49 @@ pub fn wrong(alloc: Global, line: &str) -> Result<Request, AllocError>
 }
 
 /// Describes the command line. `clap` adds `--help` and `--version`, whose texts are those of `Reply`.
-fn command<'a>(alloc: Global) -> Result<Command<'a>, AllocError> {
-    let format = Arg::new(alloc, "format")
+fn command<'a>(alloc: Global) -> Result<Command<'a>, AllocError>
+    ensures { IfOk result (λ command. IsCommand (app_of command)) }
+{
+    Command::new(alloc, "nlshow")
+        .version(VERSION)
+        .arg(format_option(alloc))?
+        .arg(flag(alloc, "check"))?
+        .arg(flag(alloc, "brief"))?
+        .arg(flag(alloc, "raw"))?
+        .arg(file_names(alloc))
+}
+
+/// Describes `--format`.
+fn format_option<'a>(alloc: Global) -> Arg<'a>
+    ensures { IsFormatRule (rule_of result) × (result.global ≡ false) }
+{
+    Arg::new(alloc, "format")
         .long("format")
         .value_name("FORMAT")
         .value_parser(FORMATS.as_slice())
-        .default_value("plain");
-    let check = Arg::new(alloc, "check")
-        .long("check")
-        .action(ArgAction::SetTrue);
-    let brief = Arg::new(alloc, "brief")
-        .long("brief")
-        .action(ArgAction::SetTrue);
-    let raw = Arg::new(alloc, "raw")
-        .long("raw")
-        .action(ArgAction::SetTrue);
-    let files = Arg::new(alloc, "FILE")
+        .default_value("plain")
+}
+
+/// Describes an option without a value.
+fn flag<'a>(alloc: Global, name: &'a str) -> Arg<'a>
+    ensures { (rule_of result ≡ flag_rule name.entry.now) × (result.global ≡ false) }
+{
+    Arg::new(alloc, name).long(name).action(ArgAction::SetTrue)
+}
+
+/// Describes the names of files.
+fn file_names<'a>(alloc: Global) -> Arg<'a>
+    ensures { (rule_of result ≡ files_rule) × (result.global ≡ false) }
+{
+    Arg::new(alloc, "FILE")
         .action(ArgAction::Append)
-        .num_args(0..);
-    Command::new(alloc, "nlshow")
-        .version(VERSION)
-        .arg(format)?
-        .arg(check)?
-        .arg(brief)?
-        .arg(raw)?
-        .arg(files)
+        .num_args(0..)
 }
 
 /// Returns the form in `matches`.
-fn chosen(matches: &ArgMatches<'_>) -> Form {
+fn chosen(matches: &ArgMatches<'_>) -> Form
+    ensures { result ≡ form_of (first_value (found_of matches.now) (codes "format")) }
+{
     match matches.get_str("format") {
         Some("json") => Form::Json,
         Some("debug") => Form::Text(Format::Debug),
@@ -200,7 +217,10 @@ fn chosen(matches: &ArgMatches<'_>) -> Form {
 }
 
 /// Returns the options of lines in `matches`.
-fn lines_in(matches: &ArgMatches<'_>) -> LineOptions {
+fn lines_in(matches: &ArgMatches<'_>) -> LineOptions
+    ensures check { IsFlag (one_text (found_of matches.now) (codes "check")) result.check }
+    ensures brief { IsFlag (one_text (found_of matches.now) (codes "brief")) result.brief }
+{
     LineOptions {
         check: matches.get_flag("check"),
         brief: matches.get_flag("brief"),
@@ -212,7 +232,10 @@ fn lines_in(matches: &ArgMatches<'_>) -> LineOptions {
 /// # Errors
 ///
 /// `AllocError` if an allocation fails.
-fn named(alloc: Global, matches: &ArgMatches<'_>) -> Result<Vec<String>, AllocError> {
+fn named(alloc: Global, matches: &ArgMatches<'_>) -> Result<Vec<String>, AllocError>
+    ensures { IfOk result (λ files. map string_bytes files.items
+        ≡ unwrap_or (option_map raw_values (matched_of (found_of matches.now) (codes "FILE"))) []) }
+{
     let mut files = Vec::new(alloc);
     if let Some(names) = matches.get_strs("FILE") {
         for name in names {
@@ -224,7 +247,8 @@ fn named(alloc: Global, matches: &ArgMatches<'_>) -> Result<Vec<String>, AllocEr
 
 /// Returns the request that `clap` reports as an error.
 fn reported(alloc: Global, error: &Error) -> Result<Request, AllocError>
-    ensures { IfOk result IsRequest }
+    ensures request { IfOk result IsRequest }
+    ensures reply { IfOk result (IsReplyTo (kind_of error.now)) }
 {
     match error.kind() {
         ErrorKind::DisplayHelp => Ok(Request::Print(Reply::Help)),

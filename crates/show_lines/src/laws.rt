@@ -1,15 +1,18 @@
 //! Theorems about the output. The functions have empty bodies; each states its theorem as its contract.
 
-ghost use Rattle.std.specs.Prelude.{◌≡◌, ◌↔◌, ℕ, Bool, List, IsTrue};
+ghost use Rattle.std.specs.Prelude.{◌≡◌, ◌↔◌, ◌∷◌, [], true, false, ℕ, Bool, List, IsTrue, codes};
 ghost use Rattle.std.specs.Io.{StartsWith};
 ghost use Rattle.netlink_packet_route.specs.Report.{line};
 ghost use Rattle.show_lines.specs.declared.arguments.Format.{Format};
 ghost use Rattle.show_lines.specs.declared.arguments.Format.TheVariants.{Plain};
 ghost use Rattle.show_lines.specs.declared.arguments.Options.{Options};
 ghost use Rattle.show_lines.specs.declared.arguments.Output.{Output};
+ghost use Rattle.show_lines.specs.declared.arguments.Output.TheVariants.{Text, Json};
+ghost use Rattle.show_lines.specs.declared.arguments.Request.{Request};
 ghost use Rattle.show_lines.specs.declared.running.Stop.{Stop};
 ghost use Rattle.show_lines.specs.declared.replies.TheConstants.{HELP, USAGE};
 ghost use Rattle.show_lines.specs.Arguments.{usage_line};
+ghost use Rattle.show_lines.specs.Command.{Asks, IsRun};
 ghost use Rattle.show_lines.specs.Show.{ShowsAll, by_options};
 ghost use Rattle.show_lines.specs.Printed.{Repeats};
 
@@ -35,4 +38,14 @@ pub fn equality()
 pub fn usage()
     ensures line { USAGE.now ≡ line usage_line }
     ensures help { StartsWith HELP.now (line usage_line) }
+{}
+
+/// What two command lines ask for, by clap's definitions: a run on files, and one that prints JSON.
+pub fn command_lines()
+    ensures files { (request : Request)
+        → Asks (codes "nlshow" ∷ codes "--raw" ∷ codes "--check" ∷ codes "x" ∷ codes "-" ∷ []) request
+        → IsRun (Text (record { format = Plain; lines = record { check = true; brief = false } })) true
+        (codes "x" ∷ codes "-" ∷ []) request }
+    ensures json { (request : Request) → Asks (codes "nlshow" ∷ codes "--format=json" ∷ []) request
+        → IsRun Json false [] request }
 {}
