@@ -90,6 +90,25 @@ licences() {
     test -z "$crate" || (cd "$crate/licences" && find . -type f | sed 's,^\./,,' | sort) | diff - "$room/licences"
 }
 
+# The SBOM has the licence of each crate that the kit has a licence text of, of no other crate, and of each text file.
+licences_in_sbom() {
+    python3 - "$room/sbom" "$tree/licences/CRATES" <<'END'
+import json, re, sys
+with open(sys.argv[1], encoding="utf-8") as file:
+    sbom = json.load(file)
+licences = {it["name"]: it["licenseConcluded"] for it in sbom["packages"]}
+with open(sys.argv[2], encoding="utf-8") as file:
+    crates = re.findall(r"^  (\w+)  +(.*)$", file.read(), re.MULTILINE)
+assert len(crates) > 20
+for name, texts in crates:
+    assert (licences[f"rattle-{name}"] == "NOASSERTION") == (texts == "none"), name
+assert licences["rattle-bitflags"] == "Apache-2.0 OR MIT"
+assert licences["rattle-ryu"] == "Apache-2.0 AND MIT"
+for it in sbom["files"]:
+    assert (it["licenseConcluded"] == "NOASSERTION") == bool(re.match(r"\./(bin/|lib/lib)", it["fileName"])), it["fileName"]
+END
+}
+
 # Each text that says what is proved says of which builds: an unproved release has the same texts.
 proofs_said() {
     find "$tree" -type f ! -path '*/bin/*' ! -path '*/lib/*' ! -path '*/licences/*' >"$room/texts"
@@ -260,6 +279,7 @@ check "the mark of each binary" marks
 check "what the shared object needs" needs
 check "the symbols and their versions" symbols
 check "the SBOM is JSON" python3 -m json.tool "$(echo "$made"/*.spdx.json)" "$room/sbom"
+check "the licences in the SBOM" licences_in_sbom
 check "the licences in each package" licences
 check "what is proved, of which builds" proofs_said
 check "C: the program of docs/c.md" c_program

@@ -1,11 +1,12 @@
 #!/usr/bin/env python3
 """Prints what an unpacked release is made of, as an SPDX 2.3 document in JSON: its files with their hashes, and the crates of
-Rattle's kit that the binaries have code of.
+Rattle's kit that the binaries have code of. Each has its licence, unless the kit has no text of it.
 
 usage: SOURCE_DATE_EPOCH=SECONDS sbom.py TREE
 
 The kit's crates are ports. The version of one is that of the Rust crate that its page in the kit names; there is no
-package URL for it. A licence is what the kit has a text of; of MIT and Apache-2.0, one can be chosen.
+package URL for it. A licence is what the kit has a text of; of LICENSE-APACHE and LICENSE-MIT, one can be chosen. The
+binaries also have code that the kit has no licence text for, so theirs is not known.
 """
 import datetime
 import hashlib
@@ -25,6 +26,8 @@ LICENCES = [
     ("BSD-3-Clause", r"[Rr]edistribution and use in source and binary"),
 ]
 UNKNOWN = "NOASSERTION"
+CHOICE = ("LICENSE-APACHE", "LICENSE-MIT")
+COPYRIGHT = re.compile(r"^ *(Copyright [^\[{\n]+)$", re.MULTILINE)
 
 
 def read(path):
@@ -40,12 +43,24 @@ def licence_of(path):
 
 def licences_of(folder):
     """Returns the expression for the texts in a folder, which need not exist."""
-    names = {licence_of(f"{folder}/{it}") for it in os.listdir(folder)} if os.path.isdir(folder) else set()
-    if not names or UNKNOWN in names:
+    texts = texts_of(folder)
+    names = {it: licence_of(f"{folder}/{it}") for it in texts}
+    if not names or UNKNOWN in names.values():
         return UNKNOWN
-    choice = sorted(names & {"Apache-2.0", "MIT"})
-    first = [f"({' OR '.join(choice)})" if len(choice) > 1 else choice[0]] if choice else []
-    return " AND ".join(first + sorted(names - {*choice}))
+    choice = [names.pop(it) for it in CHOICE] if all(it in names for it in CHOICE) else []
+    rest = sorted({*names.values()})
+    first = [f"({' OR '.join(choice)})" if rest else " OR ".join(choice)] if choice else []
+    return " AND ".join(first + rest)
+
+
+def texts_of(folder):
+    return sorted(os.listdir(folder)) if os.path.isdir(folder) else []
+
+
+def copyright_of(folder):
+    """Returns the lines with a copyright of the texts in a folder."""
+    texts = [read(f"{folder}/{it}").decode(errors="replace") for it in texts_of(folder)]
+    return "\n".join(dict.fromkeys(line for text in texts for line in COPYRIGHT.findall(text))) or UNKNOWN
 
 
 def version_of(page):
@@ -54,15 +69,15 @@ def version_of(page):
     return found[1] if found else None
 
 
-def package(name, comment, version=None, licence=UNKNOWN):
+def package(name, comment, version=None, licence=UNKNOWN, copyright_text=UNKNOWN):
     found = {
         "SPDXID": f"SPDXRef-{re.sub('[^A-Za-z0-9.-]', '-', name)}",
         "name": name,
         "downloadLocation": UNKNOWN,
         "filesAnalyzed": False,
-        "licenseConcluded": UNKNOWN,
+        "licenseConcluded": licence,
         "licenseDeclared": licence,
-        "copyrightText": UNKNOWN,
+        "copyrightText": copyright_text,
         "comment": comment,
     }
     return found | ({"versionInfo": version} if version else {})
@@ -75,16 +90,25 @@ def files_of(tree):
         folders.sort()
         paths = [os.path.join(folder, it) for it in sorted(names)]
         found += [it for it in paths if not os.path.islink(it)]
-    return [file(number, os.path.relpath(path, tree), read(path)) for number, path in enumerate(found)]
+    return [file(number, os.path.relpath(path, tree), path) for number, path in enumerate(found)]
 
 
-def file(number, path, content):
+def licence_of_file(name, path):
+    """Returns the licence of a file with this name in the tree: that of this repository, but of binaries and other licences."""
+    if name.startswith(("bin/", "lib/libnlroute.")):
+        return UNKNOWN
+    return licence_of(path) if re.match("licences/.*/", name) else "MIT"
+
+
+def file(number, name, path):
+    content, licence = read(path), licence_of_file(name, path)
     sums = {"SHA1": hashlib.sha1(content), "SHA256": hashlib.sha256(content)}
     return {
         "SPDXID": f"SPDXRef-File-{number}",
-        "fileName": f"./{path}",
+        "fileName": f"./{name}",
         "checksums": [{"algorithm": name, "checksumValue": it.hexdigest()} for name, it in sums.items()],
-        "licenseConcluded": UNKNOWN,
+        "licenseConcluded": licence,
+        "licenseInfoInFiles": [licence],
         "copyrightText": UNKNOWN,
     }
 
@@ -95,7 +119,8 @@ def release(version, mark, files):
     return package("nlroute", mark, version, "MIT") | {
         "filesAnalyzed": True,
         "packageVerificationCode": {"packageVerificationCodeValue": hashlib.sha1(sums.encode()).hexdigest()},
-        "licenseInfoFromFiles": [UNKNOWN],
+        "licenseConcluded": UNKNOWN,
+        "licenseInfoFromFiles": sorted({it["licenseConcluded"] for it in files}),
         "hasFiles": [it["SPDXID"] for it in files],
     }
 
@@ -108,7 +133,9 @@ def crates(tree):
         if found:
             name = found[1]
             version = version_of(f"{kit}/rattle/{name}/README.md")
-            yield package(f"rattle-{name}", f"the kit's crate {name}", version, licences_of(f"{tree}/licences/{name}"))
+            texts = f"{tree}/licences/{name}"
+            comment = f"the kit's crate {name}"
+            yield package(f"rattle-{name}", comment, version, licences_of(texts), copyright_of(texts))
 
 
 def document(tree):
