@@ -67,6 +67,13 @@ python_package() (
     NLROUTE_LIB_DIR='' python3 -c "import backend; backend.build_wheel('$made'); backend.build_sdist('$made')"
 )
 
+# Packs a folder, always to the same bytes, as dist.sh does.
+pack() {
+    tar --sort=name --format=ustar --owner=0 --group=0 --numeric-owner --mode=u=rwX,go=rX --mtime="@$SOURCE_DATE_EPOCH" \
+        -cf "$1.tar" "$1"
+    gzip -9n "$1.tar"
+}
+
 # Makes the crate.
 crate() (
     cp -R "$tree/rust" "$tree/licences" "$room"
@@ -76,7 +83,13 @@ crate() (
     cp "$tree/lib/libnlroute.a" native
     sed -i "s/^version = \"$version\"$/version = \"$version${unproved:+-unproved}\"/" Cargo.toml
     CARGO_TARGET_DIR=$room/target cargo package --quiet --offline --allow-dirty --no-verify
-    cp "$room"/target/package/*.crate "$made"
+    cd "$room/target/package"
+    crate=$(basename ./*.crate .crate)
+    tar -xf "$crate.crate"
+    # new cargo writes this key, and old cargo warns of it; the table `lib` says as much
+    sed -i '/^autolib = /d' "$crate/Cargo.toml"
+    pack "$crate"
+    mv "$crate.tar.gz" "$made/$crate.crate"
 )
 
 # Moves a tree to where Debian has its files, as $1/usr.

@@ -203,12 +203,19 @@ edition = "2021"
 nlroute = { path = "$1" }
 END
     cd "$room/project"
-    as_user cargo run --quiet --bin project | grep -qx 'a request of 16 bytes'
-    as_user cargo run --quiet --bin first | is_first
+    as_user cargo run --quiet --bin project 2>"$room/warned" | grep -qx 'a request of 16 bytes'
+    as_user cargo run --quiet --bin first 2>>"$room/warned" | is_first
+    diff /dev/null "$room/warned"
     readelf -p .note.nlroute "$room/target/debug/project" | grep -qF "$mark"
 }
 
-# The crate's own tests.
+# The same with Debian's cargo, which is older: it warns of keys of Cargo.toml that it does not know.
+with_old_cargo() {
+    path=/usr/bin:$path
+    rust_program "$crate"
+}
+
+# The crate's own tests; cargo compiles the examples with them.
 crate_tests() {
     cd "$crate"
     as_user cargo test --quiet
@@ -295,6 +302,8 @@ if has venv python3 -m venv "$room/env"; then
 fi
 if [ -n "$crate" ]; then
     check "Rust: the crate" rust_program "$crate"
+    check "Rust: no key that is new" test -z "$(grep '^autolib' "$crate/Cargo.toml")"
+    ! has "cargo of Debian" /usr/bin/cargo --version || check "Rust: the crate, with Debian's cargo" with_old_cargo
     check "Rust: the folder of the tarball" rust_program "$tree/rust"
     check "Rust: the tests of the crate" crate_tests
     check "Rust: the pages of the crate, without a library" crate_pages
