@@ -94,9 +94,16 @@ crate() (
 
 # Moves a tree to where Debian has its files, as $1/usr.
 as_debian() {
-    mkdir -p "$1/usr/lib/python3/dist-packages"
+    packages=$1/usr/lib/python3/dist-packages
+    mkdir -p "$packages"
     cp -R "$tree/bin" "$tree/include" "$tree/share" "$1/usr"
-    cp -R "$tree/python/nlroute" "$1/usr/lib/python3/dist-packages"
+    cp -R "$tree/python/nlroute" "$packages"
+    # importlib.metadata and pip find name and version there, as the wheel has them
+    python3 -m zipfile -e "$made"/*.whl "$room/wheel"
+    info=$packages/$(basename "$room"/wheel/*.dist-info)
+    mkdir "$info"
+    cp "$room"/wheel/*.dist-info/METADATA "$info"
+    echo debian >"$info/INSTALLER"
     folder=lib/$(dpkg-architecture -q DEB_HOST_MULTIARCH)
     cp -R "$tree/lib" "$1/usr/$folder"
     sed -i "s,^prefix=.*,prefix=/usr,; s,^libdir=.*,libdir=\${prefix}/$folder," "$1/usr/$folder/pkgconfig/nlroute.pc"

@@ -242,10 +242,20 @@ debian_packages() {
     cc main.c -I system/usr/include -L "$libraries" -lnlroute
     as_user LD_LIBRARY_PATH="$libraries" ./a.out | grep -qx 'a request of 8 bytes'
     shows system/usr/bin/nlshow
-    as_user LD_LIBRARY_PATH="$libraries" PYTHONPATH=system/usr/lib/python3/dist-packages python3 -c 'import nlroute'
     for it in system/usr/share/doc/*/copyright; do
         grep -q '^  core  *none$' "$it"
     done
+}
+
+# The package of Python, and its version as pip finds it: that of the wheel.
+debian_python() {
+    case $mark in
+    *", unproved, "*) said=$version.dev0+unproved ;;
+    *) said=$version ;;
+    esac
+    program='import importlib.metadata, nlroute; print(importlib.metadata.version("nlroute"))'
+    as_user LD_LIBRARY_PATH="$libraries" PYTHONPATH="$system/lib/python3/dist-packages" python3 -c "$program" |
+        grep -qxF "$said"
 }
 
 lints() {
@@ -310,6 +320,9 @@ if [ -n "$crate" ]; then
 fi
 if ls "$made"/*.deb >/dev/null 2>&1; then
     check "Debian: the packages" debian_packages
+    system=$room/system/usr
+    libraries=$(echo "$system"/lib/*-linux-gnu)
+    check "Debian: the Python package" debian_python
     ! has lintian lintian --version || check "Debian: lintian" lints
 fi
 echo "the checks took $(($(date +%s) - began)) s"
