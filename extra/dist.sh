@@ -3,10 +3,10 @@
 # machines without the kit can use it. The result is FOLDER/nlroute-VERSION-MACHINE-linux.tar.gz. FOLDER is out/ if none
 # is named. The name of an unproved build has `-unproved` after the version. The last line is the path.
 #
-# It adds a README, the sources of both bindings, which use the library beside them, and licences: that of this repository,
-# and those of the kit's crates, as the binaries have code of them. The same PREFIX and commit give the same bytes: names
-# are sorted, and owner and times fixed. The time is that of the commit, or SOURCE_DATE_EPOCH if it is set. It needs GNU
-# tar, gzip, git and binutils.
+# It adds a README, the changelog, manuals and examples, the sources of both bindings, which use the library beside them, and
+# licences: that of this repository, and those of the kit's crates, as the binaries have code of them. The same PREFIX and
+# commit give the same bytes: names are sorted, and owner and times fixed. The time is that of the commit, or
+# SOURCE_DATE_EPOCH if it is set. It needs GNU tar, gzip, git, binutils and Python 3.
 set -eu
 
 if [ $# = 0 ] || [ $# -gt 2 ]; then
@@ -98,10 +98,13 @@ Contents
   lib/libnlroute.a        the static library
   lib/libnlroute.so       the shared object
   lib/pkgconfig/          its description for pkg-config
-  bin/, share/man/        the programs and their man pages
-  share/jq/               functions for jq, which reads what nlshow --format json prints
-  rust/                   the Rust crate
-  python/                 the Python package
+  bin/                    the programs
+  share/man/              their man pages, and nlroute(3) for C
+  share/doc/nlroute/      manuals: c.md, rust.md and python.md for the library, programs.md and json.md for the programs,
+                          messages.md and families.md for all; examples/ in C and C++
+  share/jq/               nlshow.jq: functions for jq, which reads what nlshow --format json prints
+  rust/, python/          the Rust crate and the Python package, each with its examples
+  CHANGELOG.md            what has changed
   licences/               which other code is in the binaries, and its licences
 
 How a binary was built, readelf -p .note.nlroute FILE prints: version, proved or unproved, commit and toolchain.
@@ -143,7 +146,6 @@ licences >"$room/list"
 mv "$room/list" CRATES
 cd "$top/bindings/rust"
 cp -R --parents Cargo.toml LICENSE README.md build.rs src "$room/$name/rust"
-cp -R --parents examples/bridge.rs examples/links.rs examples/manager.rs examples/typed.rs "$room/$name/rust"
 install -D -m 644 -t "$room/$name/rust/include" "$top/crates/nlroute_ffi/include/nlroute_kinds.h"
 cd "$top/bindings/python"
 cp -R --parents LICENSE README.md backend.py pyproject.toml nlroute/*.py nlroute/py.typed "$room/$name/python"
@@ -152,6 +154,7 @@ tar -cf "$room/files.tar" bin/nlroute bin/nlshow include/nlroute*.h lib/libnlrou
     "lib/libnlroute.so.$series" "lib/libnlroute.so.$version" lib/pkgconfig/nlroute.pc \
     share/man/man1/nlroute.1 share/man/man1/nlshow.1 share/man/man3/nlroute.3 share/jq/nlshow.jq
 tar -xf "$room/files.tar" -C "$room/$name"
+"$top/extra/release/manuals.py" "$room/$name"
 cd "$room"
 tar --sort=name --format=ustar --owner=0 --group=0 --numeric-owner --mode=u=rwX,go=rX --mtime="@$date" \
     -cf "$name.tar" "$name"

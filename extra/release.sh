@@ -2,7 +2,7 @@
 # release.sh [--fast] [FOLDER]: proves and builds a release, and writes it to the new folder FOLDER, which is release/ in
 # the top folder if none is named:
 #
-#     nlroute-VERSION-MACHINE-linux.tar.gz     libraries, programs, headers, man pages, both bindings (dist.sh)
+#     nlroute-VERSION-MACHINE-linux.tar.gz     libraries, programs, headers, manuals, examples, both bindings (dist.sh)
 #     nlroute-VERSION-py3-none-manylinux*.whl  the Python package, with the shared library
 #     nlroute-VERSION.tar.gz                   the Python package, without it (sdist)
 #     nlroute-VERSION.crate                    the Rust crate, with the static library
@@ -97,6 +97,8 @@ as_debian() {
     packages=$1/usr/lib/python3/dist-packages
     mkdir -p "$packages"
     cp -R "$tree/bin" "$tree/include" "$tree/share" "$1/usr"
+    rm -r "$1/usr/share/doc"
+    "$top/extra/release/manuals.py" --debian "$1/usr"
     cp -R "$tree/python/nlroute" "$packages"
     # importlib.metadata and pip find name and version there, as the wheel has them
     python3 -m zipfile -e "$made"/*.whl "$room/wheel"
@@ -116,6 +118,7 @@ debian() (
     mkdir -p "$sources"
     as_debian "$sources/files"
     cp -R "$top/extra/release/debian" "$sources"
+    cp "$tree/python/CHANGELOG.md" "$sources/debian"
     cd "$sources"
     sed -i "s/@MAINTAINER@/$maintainer/" debian/control
     "$top/extra/release/copyright.py" "$tree" >debian/copyright

@@ -93,11 +93,12 @@ function_of_jq() {
         jq -L "$tree/share/jq" 'include "nlshow"; .list.attrs | o | .conduit' | grep -qx 42
 }
 
-# The same files, wherever they were installed.
+# The same files, wherever they were installed, and the manuals beside them.
 is_moved() {
     for it in bin include lib share; do
-        diff -r "$staged/$it" "$tree/$it"
+        diff -r --exclude doc "$staged/$it" "$tree/$it"
     done
+    test -f "$tree/share/doc/nlroute/c.md"
 }
 
 # Packing again, at another time, gives the same bytes.

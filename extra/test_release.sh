@@ -114,9 +114,35 @@ proofs_said() {
     find "$tree" -type f ! -path '*/bin/*' ! -path '*/lib/*' ! -path '*/licences/*' >"$room/texts"
     while read -r it; do
         sed 's,^[ */#!]*,,' "$it" | tr '\n' ' ' | sed 's/\. /.\n/g' | grep -E '\b(is|are|was|were) proved\b' |
-            grep -vE 'builds that say|neither the function|nothing of it' || true
+            grep -vE 'builds that say|[Ww]hat is proved|whether it is|[Nn]othing|neither' || true
     done <"$room/texts" >"$room/claimed"
     diff /dev/null "$room/claimed"
+}
+
+# The folders and files of the README are there, and each link of the pages below $1 leads to a file.
+pages() {
+    sed -n '/^Contents$/,/^Use$/ s,^  \([^ ].*[^ ]\)   *[^ ].*,\1,p' "$tree/README" | tr -d , | tr ' ' '\n' >"$room/listed"
+    grep -qx CHANGELOG.md "$room/listed"
+    while read -r it; do
+        test -e "$tree/$it"
+    done <"$room/listed"
+    find "$1" -name '*.md' | while read -r page; do
+        grep -o '](\([^)#:]*\)' "$page" | sed 's/^](//' | while read -r link; do
+            test -e "$(dirname "$page")/$link" || echo "$page: $link"
+        done
+    done >"$room/broken"
+    diff /dev/null "$room/broken"
+}
+
+# The examples in C and C++ in the folder $1 compile with the options after it.
+examples() {
+    folder=$1
+    shift
+    for it in "$folder"/*.c; do
+        cc -std=gnu99 -Wall -Wextra -Werror -o "$room/example" "$it" "$@"
+    done
+    test -e "$folder/structs.cpp"
+    ! has c++ c++ --version || c++ -Wall -Wextra -Werror -o "$room/example" "$folder/structs.cpp" "$@"
 }
 
 # The program of docs/c.md, with the shared and with the static library.
@@ -218,6 +244,7 @@ with_old_cargo() {
 # The crate's own tests; cargo compiles the examples with them.
 crate_tests() {
     cd "$crate"
+    test -f CHANGELOG.md -a -f examples/first.rs
     as_user cargo test --quiet
 }
 
@@ -256,6 +283,22 @@ debian_python() {
     program='import importlib.metadata, nlroute; print(importlib.metadata.version("nlroute"))'
     as_user LD_LIBRARY_PATH="$libraries" PYTHONPATH="$system/lib/python3/dist-packages" python3 -c "$program" |
         grep -qxF "$said"
+    as_user LD_LIBRARY_PATH="$libraries" PYTHONPATH="$system/lib/python3/dist-packages" \
+        python3 "$system/share/doc/python3-nlroute/examples/first.py" | is_first
+}
+
+# Man pages, manuals, changelog and examples, and the file for jq, where the tarball has it.
+debian_manuals() {
+    for it in man1/nlroute.1.gz man1/nlshow.1.gz man3/nlroute.3.gz; do
+        test -f "$system/share/man/$it"
+    done
+    for it in libnlroute-dev/c.md nlshow/programs.md nlshow/json.md python3-nlroute/python.md \
+        libnlroute0.3/CHANGELOG.md libnlroute0.3/changelog.gz; do
+        test -f "$system/share/doc/$it"
+    done
+    pages "$system/share/doc"
+    examples "$system/share/doc/libnlroute-dev/examples" -I "$system/include" -L "$libraries" -lnlroute
+    cmp "$tree/share/jq/nlshow.jq" "$system/share/jq/nlshow.jq"
 }
 
 lints() {
@@ -299,8 +342,11 @@ check "the SBOM is JSON" python3 -m json.tool "$(echo "$made"/*.spdx.json)" "$ro
 check "the licences in the SBOM" licences_in_sbom
 check "the licences in each package" licences
 check "what is proved, of which builds" proofs_said
+check "the README and the manuals" pages "$tree"
 check "C: the program of docs/c.md" c_program
 check "C: the program of README.md" first_in_c
+# shellcheck disable=SC2046
+check "C: the examples" examples "$tree/share/doc/nlroute/examples" $(flags)
 check "C: the mark of a program" mark_of_program
 ! has c++ c++ --version || check "C++: the structs" structs_in_cpp
 check "nlshow" shows "$tree/bin/nlshow"
@@ -323,6 +369,7 @@ if ls "$made"/*.deb >/dev/null 2>&1; then
     system=$room/system/usr
     libraries=$(echo "$system"/lib/*-linux-gnu)
     check "Debian: the Python package" debian_python
+    check "Debian: manuals, examples and the file for jq" debian_manuals
     ! has lintian lintian --version || check "Debian: lintian" lints
 fi
 echo "the checks took $(($(date +%s) - began)) s"

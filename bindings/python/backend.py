@@ -50,8 +50,10 @@ def build_sdist(sdist_directory, config_settings=None):
     """Writes the sdist, and returns its name. pip calls this."""
     project = described()
     stem = f"{project['name']}-{project['version']}"
-    files = {it: read(os.path.join(HERE, it)) for it in ("LICENSE", "README.md", "backend.py", "pyproject.toml")}
-    files |= package(project)
+    names = ["LICENSE", "README.md", "backend.py", "pyproject.toml"]
+    names += [it for it in ["CHANGELOG.md"] if os.path.exists(os.path.join(HERE, it))]  # (only a release has it)
+    files = {it: read(os.path.join(HERE, it)) for it in names}
+    files |= package(project) | files_in("examples", ".py")
     files["PKG-INFO"] = metadata(project)
     made = io.BytesIO()
     with tarfile.open(fileobj=made, mode="w", format=tarfile.USTAR_FORMAT) as tar:
@@ -107,9 +109,13 @@ def read(path):
 
 def package(project):
     """Returns the files of the package."""
-    folder = os.path.join(HERE, project["name"])
-    names = sorted(it for it in os.listdir(folder) if it.endswith((".py", ".typed")))
-    return {f"{project['name']}/{it}": read(os.path.join(folder, it)) for it in names}
+    return files_in(project["name"], (".py", ".typed"))
+
+
+def files_in(folder, suffixes):
+    """Returns the files of a folder here with one of these suffixes."""
+    names = sorted(it for it in os.listdir(os.path.join(HERE, folder)) if it.endswith(suffixes))
+    return {f"{folder}/{it}": read(os.path.join(HERE, folder, it)) for it in names}
 
 
 def licences(path=None):
