@@ -82,9 +82,11 @@ readme() {
     cat <<END
 nlroute $version$unproved
 
-The C library parses, checks, counts and re-encodes lists of netlink link attributes, such as IFLA_INFO_DATA of bonds,
-bridges and VLAN devices; the manual nlroute(1) has all. The program nlshow prints such lists, and the messages that contain
-them. The program nlroute re-encodes a list.
+Linux describes a bond, a bridge or a VLAN device in netlink messages, by lists of attributes such as IFLA_INFO_DATA. The
+program nlshow prints such messages, live or from captures, as text or JSON. The library nlroute finds the lists in messages,
+checks, reads, changes and writes them, and writes requests, from C, C++, Rust and Python. The program nlroute decodes a list
+and encodes it again. They cover the devices and ports of share/doc/nlroute/families.md, with what links of every kind have.
+They open no sockets: you bring the bytes.
 
 $proved
 

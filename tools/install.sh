@@ -146,7 +146,7 @@ libdir=\${prefix}/$libdir
 build=$mark
 
 Name: nlroute
-Description: Lists of netlink link attributes${fast:+ (unproved build)}
+Description: Netlink link attributes, messages about links, and requests${fast:+ (unproved build)}
 Version: $version
 Cflags: -I\${includedir}
 Libs: -L\${libdir} -lnlroute
