@@ -1,6 +1,23 @@
-"""Lists of netlink link attributes, by libnlroute: the payload of IFLA_INFO_DATA and the like, and messages about links.
+"""Finds Linux link attributes in netlink messages, reads, prints, changes and writes them, and writes requests.
 
-`read` parses a list, and `List` makes one. `messages` yields the messages of a buffer, `Message.held` a list in one. The constants have the kernel's names, and know the types of their values.
+To read the bytes of a list, such as the payload of IFLA_INFO_DATA of a bond:
+    bond = read(Family.BOND, data)           the attributes, each a name with a value
+    bond[IFLA_BOND_MIIMON]                   the value of one; KeyError if it is not there
+    bond.to_dict()                           all, as json.dumps takes them
+    text(Family.BOND, data)                  all, a line for each, as nlshow prints them
+To read messages:
+    for message in messages(data)            each message of a buffer, such as recv returns
+    message.held(Family.BOND)                the last list of a set in it, or None
+    message.lists()                          all lists in it, each with its set
+To write the bytes of a list:
+    bond = List(Family.BOND, {name: value})  a list of these values
+    bond[IFLA_BOND_MIIMON] = 200             replaces or adds a value
+    bytes(bond)                              the bytes; WriteError if a value does not fit
+To write a request, which bytes() also does:
+    Request.create("bond0").options(bond)    makes a link with these options
+    Request.change(index).master(7).up()     changes the link with this index
+
+Constants, such as IFLA_BOND_MIIMON, have the kernel's names, and know the types of their values. Malformed bytes raise Fault. `build()` says which library does the work, and whether it is proved.
 
 >>> from nlroute import *
 >>> bridge = read(Family.BRIDGE, bytes.fromhex("08000100dc050000 0a001400 0180c2000000 0000"))
