@@ -12,10 +12,6 @@ extern "C" {
     fn if_nametoindex(name: *const c_char) -> c_uint;
 }
 
-const AF_BRIDGE: u8 = 7;
-const NLMSG_ERROR: u16 = 2;
-const NLMSG_DONE: u16 = 3;
-const NLM_F_MULTI: u16 = 2;
 
 /// Makes a value of its text.
 trait Told: Sized {
@@ -94,12 +90,13 @@ impl Netlink {
             reply.extend_from_slice(&buffer[..length]);
             for message in messages(&buffer[..length]) {
                 let message = message.expect("a message");
-                let is_error = message.message_type() == NLMSG_ERROR;
+                let is_error = message.message_type() == MessageType::NLMSG_ERROR;
                 if is_error && message.payload()[..4] != [0; 4] {
                     let error = i32::from_ne_bytes(message.payload()[..4].try_into().expect("four bytes"));
                     println!("refused {}", -error);
                 }
-                if is_error || message.message_type() == NLMSG_DONE || message.flags() & NLM_F_MULTI == 0 {
+                let is_last = is_error || message.message_type() == MessageType::NLMSG_DONE;
+                if is_last || !message.flags().contains(MessageFlags::MULTI) {
                     return Ok(reply);
                 }
             }
@@ -111,9 +108,9 @@ impl Netlink {
         if let Some(request) = request {
             self.ask(request)?;
         }
-        let all = Request::dump().address_family(AF_BRIDGE).with(IFLA_EXT_MASK, ExtMask::BRVLAN);
+        let all = Request::dump().address_family(AddressFamily::BRIDGE).with(IFLA_EXT_MASK, ExtMask::BRVLAN);
         let reply = self.ask(if in_bridge { all } else { Request::get(name) })?;
-        for link in messages(&reply).flatten().filter(|it| it.is_link() && it.index() as u32 == index(name)) {
+        for link in messages(&reply).flatten().filter(|it| it.is_link() && it.index() == index(name)) {
             println!("index {}", link.index());
             for list in link.lists() {
                 let list = list.expect("a list");

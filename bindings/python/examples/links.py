@@ -7,10 +7,8 @@ import socket
 import struct
 from collections.abc import Iterable, Iterator
 
-from nlroute import IFLA_IFNAME, Family, Fault, Message, Text, messages
+from nlroute import IFLA_IFNAME, Family, Fault, Message, MessageType, Request, Text, messages
 
-NLMSG_ERROR, NLMSG_DONE, RTM_NEWLINK, RTM_GETLINK = 2, 3, 16, 18
-NLM_F_REQUEST, NLM_F_DUMP = 1, 0x300
 # The sets of lists that every link has.
 ADDRESS_FAMILIES = {Family.AF_SPEC, Family.INET, Family.INET6, Family.MCTP}
 
@@ -18,8 +16,7 @@ ADDRESS_FAMILIES = {Family.AF_SPEC, Family.INET, Family.INET6, Family.MCTP}
 def buffers() -> Iterator[bytes]:
     """Yields what the kernel sends: one or several messages at a time."""
     with socket.socket(socket.AF_NETLINK, socket.SOCK_RAW, socket.NETLINK_ROUTE) as netlink:
-        # struct nlmsghdr and struct ifinfomsg
-        netlink.send(struct.pack("=IHHII16x", 32, RTM_GETLINK, NLM_F_REQUEST | NLM_F_DUMP, 1, 0))
+        netlink.send(bytes(Request.dump()))
         while True:
             yield netlink.recv(1 << 16)
 
@@ -28,11 +25,11 @@ def links(buffers: Iterable[bytes]) -> Iterator[Message]:
     """Yields the messages about links, up to the end of a dump."""
     for data in buffers:
         for message in messages(data):
-            if message.type == NLMSG_ERROR:
+            if message.type == MessageType.NLMSG_ERROR:
                 raise OSError(-struct.unpack_from("=i", message.payload)[0], "RTM_GETLINK")
-            if message.type == NLMSG_DONE:
+            if message.type == MessageType.NLMSG_DONE:
                 return
-            if message.type == RTM_NEWLINK:
+            if message.type == MessageType.RTM_NEWLINK:
                 yield message
 
 

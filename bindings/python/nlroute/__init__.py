@@ -42,6 +42,8 @@ import typing as _typing
 
 from . import _kinds
 from ._errors import Error as Error, Fault as Fault, MessageFault as MessageFault, WriteError as WriteError
+from ._headers import AddressFamily as AddressFamily, LinkFlags as LinkFlags
+from ._headers import MessageFlags as MessageFlags, MessageType as MessageType
 from ._kinds import *
 from ._kinds import VERSION as _VERSION
 from ._library import build as build, from_info_kind as from_info_kind, from_port_kind as from_port_kind
@@ -72,7 +74,7 @@ if not _typing.TYPE_CHECKING:
         "Error", "Fault", "MessageFault", "WriteError", "build", "from_info_kind", "from_port_kind", "List", "read", "text",
         "Message", "messages", "Request", "Attribute", "BerrCounter", "BridgeId", "CanBitTiming", "CanBitTimingConst",
         "Content", "Flags", "Key", "Mac", "Masked", "Named", "QosMapping", "Text", "Unknown", "VlanInfo",
-        *_kinds.__all__,
+        "AddressFamily", "LinkFlags", "MessageFlags", "MessageType", *_kinds.__all__,
     ]  # fmt: skip
 
 __version__ = f"{_VERSION >> 16}.{_VERSION >> 8 & 255}.{_VERSION & 255}"

@@ -5,6 +5,7 @@ from collections.abc import Iterator
 from typing import Any
 
 from . import _library, _plain
+from ._headers import AddressFamily, LinkFlags, MessageFlags, MessageType
 from ._kinds import Family, Form
 from ._list import List
 from ._records import PEER_HEADER, VALUE, MessageRecord, record
@@ -21,7 +22,7 @@ class Message:
     >>> info = bytes.fromhex("18001200 08000100 626f6e64 0c000200 05000100 04000000")
     >>> message, = nlroute.messages(bytes.fromhex("38000000") + link + info)
     >>> message.type, message.index, message.attributes.keys()
-    (16, 9, ['IFLA_LINKINFO'])
+    (<MessageType.RTM_NEWLINK: 16>, 9, ['IFLA_LINKINFO'])
     >>> print(message.held(nlroute.Family.BOND))
     IFLA_BOND_MODE 802.3ad (4)
     """
@@ -32,25 +33,26 @@ class Message:
     )  # fmt: skip
 
     at: int  # offset in the buffer, in bytes
-    type: int  # nlmsg_type, such as 16 for RTM_NEWLINK
-    flags: int  # nlmsg_flags
+    type: MessageType  # nlmsg_type
+    flags: MessageFlags  # nlmsg_flags
     sequence: int  # nlmsg_seq
     port: int  # nlmsg_pid
     # whether it has a struct ifinfomsg: RTM_NEWLINK, RTM_DELLINK, RTM_GETLINK, RTM_SETLINK, RTM_NEWLINKPROP,
     # RTM_DELLINKPROP, RTM_GETLINKPROP
     is_link: bool
     index: int  # ifi_index
-    link_flags: int  # ifi_flags
-    change: int  # ifi_change
+    link_flags: LinkFlags  # ifi_flags
+    change: LinkFlags  # ifi_change
     link_type: int  # ifi_type
-    address_family: int  # ifi_family
+    address_family: AddressFamily  # ifi_family
     payload: bytes  # its attributes as they are in the buffer; without a struct ifinfomsg, what follows its header
 
     def __init__(self, at: int, fields: MessageRecord, data: bytes):
         self.at, self.is_link = at, bool(fields.is_link)
-        self.type, self.flags, self.sequence, self.port = fields.type, fields.flags, fields.sequence, fields.port
-        self.index, self.link_flags, self.change = fields.link_index, fields.link_flags, fields.change
-        self.link_type, self.address_family = fields.link_type, fields.address_family
+        self.type, self.flags = MessageType(fields.type), MessageFlags(fields.flags)
+        self.sequence, self.port, self.index = fields.sequence, fields.port, fields.link_index
+        self.link_flags, self.change = LinkFlags(fields.link_flags), LinkFlags(fields.change)
+        self.link_type, self.address_family = fields.link_type, AddressFamily(fields.address_family)
         self.payload = data[fields.list : fields.list + fields.length]
         self._start = fields.list  # offset of the payload in the buffer
 
@@ -74,9 +76,9 @@ class Message:
 
     def to_dict(self) -> dict[str, Any]:
         """Returns the fields and the attributes, as `List.to_dict` does. Raises Fault if the attributes are malformed."""
-        found: dict[str, Any] = {name: getattr(self, name) for name in ("type", "flags", "sequence", "port")}
+        found: dict[str, Any] = {name: int(getattr(self, name)) for name in ("type", "flags", "sequence", "port")}
         if self.is_link:
-            found |= {name: getattr(self, name) for name in _plain.HEADER}
+            found |= {name: int(getattr(self, name)) for name in _plain.HEADER}
             found["attributes"] = _plain.to_dict(TABLES[Family.LINK], self.payload, self.address_family, self._start)
         return found
 
@@ -108,7 +110,7 @@ def messages(data: bytes | bytearray | memoryview) -> Iterator[Message]:
     >>> import nlroute
     >>> two = nlroute.messages(bytes.fromhex("10000000 03000000 05000000 00000000 08000000"))
     >>> next(two)
-    <Message type=3 index=0 0 bytes>
+    <Message type=NLMSG_DONE index=0 0 bytes>
     >>> next(two)
     Traceback (most recent call last):
         ...

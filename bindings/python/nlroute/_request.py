@@ -6,6 +6,7 @@ from typing import Any, NamedTuple, overload
 
 from . import _library
 from ._errors import WriteError
+from ._headers import AddressFamily, LinkFlags, MessageFlags, MessageType
 from ._kinds import Code, Family, Form
 from ._library import from_info_kind, from_port_kind
 from ._list import List
@@ -13,9 +14,7 @@ from ._records import REQUEST, VALUE
 from ._types import Key, Mac, T
 from ._write import Values, Writer
 
-RTM_NEWLINK, RTM_DELLINK, RTM_GETLINK, RTM_SETLINK, RTM_NEWLINKPROP, RTM_DELLINKPROP = 16, 17, 18, 19, 108, 109
-NLM_F_ACK, NLM_F_DUMP, NLM_F_CREATE_EXCL, NLM_F_APPEND = 4, 0x300, 0x600, 0x800
-AF_BRIDGE, IFF_UP = 7, 1
+CREATED = MessageFlags.ACK | MessageFlags.CREATE | MessageFlags.EXCL  # the flags of a request that makes something
 IFLA_PROTINFO, IFLA_LINKINFO, IFLA_AF_SPEC = 12, 18, 26
 INFO_KIND, INFO_DATA, INFO_SLAVE_KIND, INFO_SLAVE_DATA = 1, 2, 4, 5
 INLINE = (1 << 64) - 1  # the offset of a value after which the values of its list follow
@@ -61,10 +60,14 @@ class Request:
 
     def __init__(self, type: int, flags: int, index: int, address_family: int = 0) -> None:
         """Makes a request of this nlmsg_type with these nlmsg_flags, to which NLM_F_REQUEST is added, and this ifi_index."""
-        self.type, self.flags, self.index, self.address_family = type, flags, index, address_family
+        self.type: int = type
+        self.flags: int = flags
+        self.index: int = index
+        self.address_family: int = address_family
         self.sequence = 0  # nlmsg_seq, which the replies repeat
         self.port = 0  # nlmsg_pid
-        self.link_flags = self.link_change = 0  # ifi_flags, and those of them that change
+        self.link_flags: int = LinkFlags(0)  # ifi_flags
+        self.link_change: int = LinkFlags(0)  # those of them that change
         self._attributes = List(Family.LINK)
         self._kind: str | None = None
         self._options: list[List] = []
@@ -72,27 +75,28 @@ class Request:
     @classmethod
     def create(cls, name: str) -> Request:
         """Makes a link with this name: RTM_NEWLINK with NLM_F_CREATE and NLM_F_EXCL."""
-        return cls(RTM_NEWLINK, NLM_F_ACK | NLM_F_CREATE_EXCL, 0).named(name)
+        return cls(MessageType.RTM_NEWLINK, CREATED, 0).named(name)
 
     @classmethod
     def change(cls, index: int) -> Request:
         """Changes the link with this index: RTM_NEWLINK."""
-        return cls(RTM_NEWLINK, NLM_F_ACK, index)
+        return cls(MessageType.RTM_NEWLINK, MessageFlags.ACK, index)
 
     @classmethod
     def delete(cls, index: int) -> Request:
         """Deletes the link with this index: RTM_DELLINK."""
-        return cls(RTM_DELLINK, NLM_F_ACK, index)
+        return cls(MessageType.RTM_DELLINK, MessageFlags.ACK, index)
 
     @classmethod
     def get(cls, link: str | int) -> Request:
         """Asks for the link with this name or index: RTM_GETLINK."""
-        return cls(RTM_GETLINK, 0, 0).named(link) if isinstance(link, str) else cls(RTM_GETLINK, 0, link)
+        kind, flags = MessageType.RTM_GETLINK, MessageFlags(0)
+        return cls(kind, flags, 0).named(link) if isinstance(link, str) else cls(kind, flags, link)
 
     @classmethod
     def dump(cls) -> Request:
         """Asks for all links: RTM_GETLINK with NLM_F_DUMP."""
-        return cls(RTM_GETLINK, NLM_F_DUMP, 0)
+        return cls(MessageType.RTM_GETLINK, MessageFlags.DUMP, 0)
 
     @classmethod
     def bridge(cls, index: int) -> Request:
@@ -100,12 +104,12 @@ class Request:
 
         Its options are lists of Family.AF_SPEC_BRIDGE and Family.BRIDGE_PORT.
         """
-        return cls(RTM_SETLINK, NLM_F_ACK, index, AF_BRIDGE)
+        return cls(MessageType.RTM_SETLINK, MessageFlags.ACK, index, AddressFamily.BRIDGE)
 
     @classmethod
     def bridge_delete(cls, index: int) -> Request:
         """Deletes VLANs of the bridge or bridge port with this index: RTM_DELLINK of AF_BRIDGE. The link stays."""
-        return cls(RTM_DELLINK, NLM_F_ACK, index, AF_BRIDGE)
+        return cls(MessageType.RTM_DELLINK, MessageFlags.ACK, index, AddressFamily.BRIDGE)
 
     @classmethod
     def property(cls, index: int) -> Request:
@@ -113,17 +117,17 @@ class Request:
 
         They are in an IFLA_PROP_LIST: `set("IFLA_PROP_LIST", {"IFLA_ALT_IFNAME": "uplink"})` adds an alternative name.
         """
-        return cls(RTM_NEWLINKPROP, NLM_F_ACK | NLM_F_CREATE_EXCL | NLM_F_APPEND, index)
+        return cls(MessageType.RTM_NEWLINKPROP, CREATED | MessageFlags.APPEND, index)
 
     @classmethod
     def property_delete(cls, index: int) -> Request:
         """Deletes properties of the link with this index: RTM_DELLINKPROP."""
-        return cls(RTM_DELLINKPROP, NLM_F_ACK, index)
+        return cls(MessageType.RTM_DELLINKPROP, MessageFlags.ACK, index)
 
     def up(self, is_up: bool = True) -> Request:
         """Sets the link up, or down (IFF_UP)."""
-        self.link_flags = self.link_flags & ~IFF_UP | (IFF_UP if is_up else 0)
-        self.link_change |= IFF_UP
+        self.link_flags = self.link_flags & ~LinkFlags.UP | (LinkFlags.UP if is_up else 0)
+        self.link_change |= LinkFlags.UP
         return self
 
     def named(self, name: str) -> Request:
@@ -215,7 +219,7 @@ class Request:
 
     def _holder(self, family: Family) -> Holder | None:
         """Returns what holds the options of a set, or None if the request has no place for them."""
-        is_bridge = self.address_family == AF_BRIDGE
+        is_bridge = self.address_family == AddressFamily.BRIDGE
         if family == Family.LINK:
             return MESSAGE
         if family == (Family.AF_SPEC_BRIDGE if is_bridge else Family.AF_SPEC):

@@ -60,6 +60,9 @@ class Named(Texts):
         return self
 
 
+MOST_STORED = 16  # bits of flags whose sets are stored
+
+
 class Flags(IntFlag):
     """A set of flags. Bits without a name are kept.
 
@@ -69,19 +72,26 @@ class Flags(IntFlag):
     """
 
     @classmethod
+    def _named(cls) -> int:
+        """Returns the bits that have a name in texts."""
+        return sum(cls)
+
+    @classmethod
     def _missing_(cls, value: object) -> Any:
         if isinstance(value, int) and value < 0:
             # the complement, which Python before 3.11 leaves negative
-            return cls(value + (1 << max(sum(cls).bit_length(), value.bit_length())))
+            return cls(value + (1 << max(cls._named().bit_length(), value.bit_length())))
         self = super()._missing_(value)
-        if isinstance(self, cls) and int(self) & ~sum(cls):
-            # IntFlag stores each new set. Sets of named bits are few; of the others, input could make 2^32.
+        named = cls._named()
+        if isinstance(self, cls) and (int(self) & ~named or named >> MOST_STORED):
+            # IntFlag stores each new set. Sets of few named bits are few; of the others, input could make 2^32.
             cls._value2member_map_.pop(int(self), None)
         return self
 
     def __str__(self) -> str:
-        names = [member.name or "" for member in type(self) if member in self]
-        rest = int(self) & ~sum(type(self))
+        named = self._named()
+        names = [member.name or "" for member in type(self) if member & named and member in self]
+        rest = int(self) & ~named
         return "|".join(names + ([hex(rest)] if rest else [])) or "0"
 
     def __format__(self, spec: str) -> str:

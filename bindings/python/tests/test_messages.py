@@ -40,6 +40,11 @@ class Messages(unittest.TestCase):
         self.assertEqual((first.at, first.type, first.flags, first.sequence, first.port), (0, 16, 2, 5, 7))
         self.assertEqual((first.is_link, first.index, first.link_flags, first.change), (True, 9, 1, 1))
         self.assertEqual((first.link_type, first.address_family, first.payload), (1, 0, LINK[32:]))
+        self.assertEqual((first.type, first.flags), (MessageType.RTM_NEWLINK, MessageFlags.MULTI))
+        self.assertEqual((str(first.type), str(first.flags), str(first.link_flags)), ("RTM_NEWLINK", "MULTI", "UP"))
+        self.assertEqual((first.link_flags, first.change), (LinkFlags.UP, LinkFlags.UP))
+        self.assertIs(first.address_family, AddressFamily.UNSPEC)
+        self.assertEqual(repr(first), f"<Message type=RTM_NEWLINK index=9 {len(LINK) - 32} bytes>")
         self.assertEqual((second.at, second.type, second.is_link, second.payload), (len(LINK), 3, False, bytes(4)))
         self.assertEqual((len(second.attributes), list(second.lists()), second.held(Family.BOND)), (0, [], None))
 
@@ -189,6 +194,8 @@ class Messages(unittest.TestCase):
         }
         self.assertEqual(it.to_dict(), expected)
         json.dumps(it.to_dict())
+        fields = {name: type(field) for name, field in it.to_dict().items()}
+        self.assertEqual(set(fields.values()), {int, dict})  # (numbers, as before they had names)
         (done,) = messages(DONE)
         self.assertEqual(done.to_dict(), {"type": 3, "flags": 2, "sequence": 5, "port": 7})
 

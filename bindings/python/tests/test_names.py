@@ -31,6 +31,27 @@ KERNEL = [
 ]  # fmt: skip
 
 
+# Those of message headers: linux/netlink.h, rtnetlink.h, if.h, socket.h.
+HEADERS = {
+    MessageType: {
+        "NLMSG_NOOP": 1, "NLMSG_ERROR": 2, "NLMSG_DONE": 3, "NLMSG_OVERRUN": 4, "RTM_NEWLINK": 16, "RTM_DELLINK": 17,
+        "RTM_GETLINK": 18, "RTM_SETLINK": 19, "RTM_NEWLINKPROP": 108, "RTM_DELLINKPROP": 109, "RTM_GETLINKPROP": 110,
+    },
+    MessageFlags: {
+        "REQUEST": 1, "MULTI": 2, "ACK": 4, "ECHO": 8, "DUMP_INTR": 0x10, "DUMP_FILTERED": 0x20, "ROOT": 0x100,
+        "MATCH": 0x200, "ATOMIC": 0x400, "DUMP": 0x300, "REPLACE": 0x100, "EXCL": 0x200, "CREATE": 0x400, "APPEND": 0x800,
+        "NONREC": 0x100, "BULK": 0x200, "CAPPED": 0x100, "ACK_TLVS": 0x200,
+    },
+    LinkFlags: {
+        "UP": 0x1, "BROADCAST": 0x2, "DEBUG": 0x4, "LOOPBACK": 0x8, "POINTOPOINT": 0x10, "NOTRAILERS": 0x20,
+        "RUNNING": 0x40, "NOARP": 0x80, "PROMISC": 0x100, "ALLMULTI": 0x200, "MASTER": 0x400, "SLAVE": 0x800,
+        "MULTICAST": 0x1000, "PORTSEL": 0x2000, "AUTOMEDIA": 0x4000, "DYNAMIC": 0x8000, "LOWER_UP": 0x10000,
+        "DORMANT": 0x20000, "ECHO": 0x40000,
+    },
+    AddressFamily: {"UNSPEC": 0, "INET": 2, "BRIDGE": 7, "INET6": 10, "PACKET": 17, "MPLS": 28, "MCTP": 45},
+}  # fmt: skip
+
+
 def form_of(row):
     """Returns the form of a row in the words of nlroute_kinds.h."""
     names = {number: name for name, number in vars(_kinds.Form).items()}
@@ -116,6 +137,18 @@ class Names(unittest.TestCase):
         for member, number in KERNEL:
             self.assertEqual(member, number)
 
+    def test_headers(self):
+        for made, numbers in HEADERS.items():
+            self.assertEqual({name: int(it) for name, it in made.__members__.items()}, numbers)
+        texts = [str(it) for it in (MessageType.RTM_NEWLINK, MessageType(20), AddressFamily.INET, LinkFlags(0x80001))]
+        self.assertEqual(texts, ["RTM_NEWLINK", "20", "AF_INET", "UP|0x80000"])
+        self.assertEqual((AddressFamily("AF_MCTP"), MessageType("NLMSG_DONE")), (45, 3))
+        # the names of bits 8 to 11 depend on the type of the message
+        flags = MessageFlags.REQUEST | MessageFlags.ACK | MessageFlags.CREATE | MessageFlags.EXCL
+        self.assertEqual((flags, str(flags), repr(flags)), (0x605, "REQUEST|ACK|0x600", "<MessageFlags REQUEST|ACK|0x600: 1541>"))
+        self.assertIn(MessageFlags.DUMP, MessageFlags(0x301))
+        self.assertEqual(~MessageFlags.ACK & MessageFlags(7), MessageFlags.REQUEST | MessageFlags.MULTI)
+
     def test_runs(self):
         count, names = 0, held_names()
         for family, data, lines in runs():
@@ -140,6 +173,11 @@ class Names(unittest.TestCase):
 
 
 class Memory(unittest.TestCase):
+    def test_sets_of_many_flags_are_not_stored(self):
+        before = len(LinkFlags._value2member_map_)
+        self.assertEqual([int(LinkFlags(number)) for number in range(512)], list(range(512)))
+        self.assertLessEqual(len(LinkFlags._value2member_map_), before + 32)
+
     def test_numbers_without_a_name_are_not_stored(self):
         for make in (VlanFlags, BondMode):
             before = len(make._value2member_map_)

@@ -26,6 +26,8 @@ assert_type(Family("bond"), Family)
 assert_type(Family.BOND.text, str)
 assert_type(bond.items(), list[Attribute])
 assert_type(bond.to_dict(), dict[str, Any])
+assert_type(next(messages(b"")).type, MessageType)
+assert_type(next(messages(b"")).link_flags, LinkFlags)
 
 bond[IFLA_BOND_MIIMON] = 100
 bond[IFLA_BOND_MIIMON] = "100"  # type: ignore[misc]

@@ -1,7 +1,7 @@
 //! Prints the attributes of the machine's links: of bonds, bridges, VLANs and so on, and of bond and bridge ports. Any
 //! user may run it. With a file as argument, it prints the links of the messages in that instead.
 
-use nlroute::{messages, Family, Fault, Message, IFLA_IFNAME};
+use nlroute::{messages, Family, Fault, Message, MessageType, IFLA_IFNAME};
 use std::fs::{self, File};
 use std::io::{self, Read, Write};
 use std::os::raw::c_int;
@@ -16,9 +16,6 @@ const AF_NETLINK: c_int = 16;
 const SOCK_RAW: c_int = 3;
 const SOCK_CLOEXEC: c_int = 0o2_000_000;
 const NETLINK_ROUTE: c_int = 0;
-const NLMSG_ERROR: u16 = 2;
-const NLMSG_DONE: u16 = 3;
-const RTM_NEWLINK: u16 = 16;
 const RTM_GETLINK: u16 = 18;
 const NLM_F_REQUEST_DUMP: u16 = 0x301;
 const HEADERS: usize = 32; // struct nlmsghdr and struct ifinfomsg
@@ -41,10 +38,12 @@ fn print_link(message: &Message<'_>) -> Result<(), Fault> {
 fn print_links(buffer: &[u8]) -> bool {
     for message in messages(buffer) {
         match message {
-            Ok(message) if message.message_type() == RTM_NEWLINK => {
+            Ok(message) if message.message_type() == MessageType::RTM_NEWLINK => {
                 print_link(&message).unwrap_or_else(|fault| println!("    {fault}"));
             }
-            Ok(message) if matches!(message.message_type(), NLMSG_DONE | NLMSG_ERROR) => return false,
+            Ok(message) if matches!(message.message_type(), MessageType::NLMSG_DONE | MessageType::NLMSG_ERROR) => {
+                return false
+            }
             Ok(_) => {}
             Err(fault) => println!("{fault}"),
         }

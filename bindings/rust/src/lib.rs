@@ -97,6 +97,7 @@
 mod attributes;
 mod error;
 mod field;
+mod headers;
 mod kinds;
 mod list;
 mod macros;
@@ -113,6 +114,7 @@ mod value;
 pub use attributes::*;
 pub use error::{Cause, Code, Error, Fault, ParseMacError, ParseNameError, Place, WriteError};
 pub use field::Field;
+pub use headers::{AddressFamily, LinkFlags, MessageFlags, MessageType};
 pub use kinds::*;
 pub use list::{find, find_in, List, Nested};
 pub use message::{messages, Message, MessageFault, Messages};

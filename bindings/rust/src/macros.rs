@@ -1,4 +1,4 @@
-//! Macros by which kinds.rs defines attribute sets, enums, sets of flags and scopes.
+//! Macros by which kinds.rs and headers.rs define attribute sets, enums, sets of flags and scopes.
 
 /// Defines the attribute sets, with their numbers in the library.
 macro_rules! families {
@@ -65,7 +65,7 @@ macro_rules! families {
 }
 
 /// Defines an enum of the kernel: a number, of which some have names.
-macro_rules! named {
+macro_rules! names {
     ($(#[$doc:meta])* $type:ident: $number:ty; $($name:ident = $value:literal, $text:literal;)*) => {
         $(#[$doc])*
         #[derive(Clone, Copy, PartialEq, Eq, Hash, PartialOrd, Ord, Default)]
@@ -80,7 +80,7 @@ macro_rules! named {
                 pub const $name: $type = $type($value);
             )*
 
-            /// Returns the name of the number, as `ip` prints it, or `None` if it has no name.
+            /// Returns the name of the number, as `ip` and `nlshow` print it, or `None` if it has none.
             pub fn name(self) -> Option<&'static str> {
                 match self.0 {
                     $($value => Some($text),)*
@@ -144,6 +144,17 @@ macro_rules! named {
                 *[$($type::$name),*].last().expect("it has a name")
             }
         }
+    };
+}
+
+/// Defines an enum that values of attributes have.
+macro_rules! named {
+    ($(#[$doc:meta])* $type:ident: $number:ty; $($rows:tt)*) => {
+        $crate::macros::names! {
+            $(#[$doc])*
+            $type: $number;
+            $($rows)*
+        }
 
         impl $crate::field::Field for $type {}
         impl $crate::field::Stored for $type {
@@ -159,7 +170,7 @@ macro_rules! named {
 }
 
 /// Defines a set of flags of the kernel: a number, some of whose bits have names.
-macro_rules! flags {
+macro_rules! bits {
     ($(#[$doc:meta])* $type:ident: $number:ty; $($name:ident = $bit:literal;)*) => {
         $(#[$doc])*
         #[derive(Clone, Copy, PartialEq, Eq, Hash, Default)]
@@ -226,6 +237,17 @@ macro_rules! flags {
                 $type(<$number>::MAX)
             }
         }
+    };
+}
+
+/// Defines a set of flags that values of attributes have.
+macro_rules! flags {
+    ($(#[$doc:meta])* $type:ident: $number:ty; $($rows:tt)*) => {
+        $crate::macros::bits! {
+            $(#[$doc])*
+            $type: $number;
+            $($rows)*
+        }
 
         impl $crate::field::Field for $type {}
         impl $crate::field::Stored for $type {
@@ -271,6 +293,17 @@ macro_rules! operator {
             }
         }
     };
+}
+
+/// Lets enums and sets of flags be compared with their numbers.
+macro_rules! compared {
+    ($($type:ident: $number:ty;)*) => {$(
+        impl PartialEq<$number> for $type {
+            fn eq(&self, other: &$number) -> bool {
+                self.0 == *other
+            }
+        }
+    )*};
 }
 
 /// Defines the type of an attribute set.
@@ -343,4 +376,4 @@ macro_rules! attributes {
     };
 }
 
-pub(crate) use {attributes, elements, families, flags, named, operator, scope};
+pub(crate) use {attributes, bits, compared, elements, families, flags, named, names, operator, scope};

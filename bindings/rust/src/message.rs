@@ -3,7 +3,7 @@
 use crate::kinds::form;
 use crate::scope::{Any, Set};
 use crate::sys::{self, RawFault, RawMessage};
-use crate::{Cause, Family, Fault, Link, List};
+use crate::{AddressFamily, Cause, Family, Fault, Link, LinkFlags, List, MessageFlags, MessageType};
 use std::fmt;
 
 /// How many levels of lists are opened below the attributes of a message.
@@ -86,14 +86,14 @@ impl<'a> Message<'a> {
         self.at
     }
 
-    /// Returns `nlmsg_type`, such as 16 for RTM_NEWLINK.
-    pub fn message_type(&self) -> u16 {
-        self.raw.kind
+    /// Returns `nlmsg_type`.
+    pub fn message_type(&self) -> MessageType {
+        MessageType(self.raw.kind)
     }
 
     /// Returns `nlmsg_flags`.
-    pub fn flags(&self) -> u16 {
-        self.raw.flags
+    pub fn flags(&self) -> MessageFlags {
+        MessageFlags(self.raw.flags)
     }
 
     /// Returns `nlmsg_seq`.
@@ -112,19 +112,21 @@ impl<'a> Message<'a> {
         self.raw.is_link != 0
     }
 
-    /// Returns `ifi_index`, the interface index.
-    pub fn index(&self) -> i32 {
-        self.raw.index
+    /// Returns `ifi_index`, the interface index: a number that [`Request::change`](crate::Request::change) takes.
+    ///
+    /// Those of links are below 2<sup>31</sup>. A negative `ifi_index` is the number with the same bits.
+    pub fn index(&self) -> u32 {
+        self.raw.index as u32
     }
 
-    /// Returns `ifi_flags`, a set of `IFF_..`.
-    pub fn link_flags(&self) -> u32 {
-        self.raw.link_flags
+    /// Returns `ifi_flags`.
+    pub fn link_flags(&self) -> LinkFlags {
+        LinkFlags(self.raw.link_flags)
     }
 
     /// Returns `ifi_change`, the flags that a request changes.
-    pub fn change(&self) -> u32 {
-        self.raw.change
+    pub fn change(&self) -> LinkFlags {
+        LinkFlags(self.raw.change)
     }
 
     /// Returns `ifi_type`, the type of the device, `ARPHRD_..`.
@@ -132,9 +134,9 @@ impl<'a> Message<'a> {
         self.raw.link_type
     }
 
-    /// Returns `ifi_family`, such as 7 for AF_BRIDGE.
-    pub fn address_family(&self) -> u8 {
-        self.raw.address_family
+    /// Returns `ifi_family`.
+    pub fn address_family(&self) -> AddressFamily {
+        AddressFamily(self.raw.address_family)
     }
 
     /// Returns the bytes of the attributes; of a message that is not about a link, the payload.
@@ -173,7 +175,7 @@ impl<'a> Message<'a> {
     /// Returns the first error in this list. Errors in other attributes do not count.
     pub fn held<S: Set>(&self) -> Result<Option<List<'a, S>>, Fault> {
         let list = self.list();
-        let held = sys::held(list, self.address_family(), S::FAMILY as u32);
+        let held = sys::held(list, self.raw.address_family, S::FAMILY as u32);
         let read = |(offset, length): (usize, usize)| {
             List::read(&list[offset..offset + length]).map_err(|fault| fault.within(self.start() + offset))
         };
@@ -202,7 +204,7 @@ impl<'a> Message<'a> {
     pub fn lists(&self) -> impl Iterator<Item = Result<List<'a, Any>, Fault>> {
         let mut found = Vec::new();
         if self.is_link() {
-            add_lists(&mut found, LEVELS, self.address_family(), Family::Link, self.payload(), self.start());
+            add_lists(&mut found, LEVELS, self.raw.address_family, Family::Link, self.payload(), self.start());
         }
         found.into_iter()
     }

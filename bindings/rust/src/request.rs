@@ -10,25 +10,15 @@ use crate::list::List;
 use crate::scope::{Key, Set};
 use crate::sys::{self, Raw, RawHead};
 use crate::types::{Held, Mac, Text};
-use crate::Family;
+use crate::{AddressFamily, Family, LinkFlags, MessageFlags, MessageType};
 
 /// The offset of a value after which the values of its list follow.
 const INLINE: u64 = u64::MAX;
 /// The field `inner` of a value that is an attribute of the message.
 const OF_MESSAGE: u16 = u16::MAX;
-const RTM_NEWLINK: u16 = 16;
-const RTM_DELLINK: u16 = 17;
-const RTM_GETLINK: u16 = 18;
-const RTM_SETLINK: u16 = 19;
-const RTM_NEWLINKPROP: u16 = 108;
-const RTM_DELLINKPROP: u16 = 109;
-const NLM_F_ACK: u16 = 4;
-const NLM_F_DUMP: u16 = 0x300;
-const NLM_F_CREATE_EXCL: u16 = 0x600;
-const NLM_F_APPEND: u16 = 0x800;
-const AF_BRIDGE: u8 = 7;
-const IFF_UP: u32 = 1;
 const IFLA_PROTINFO: u16 = 12;
+/// The flags of a request that makes something.
+const CREATED: MessageFlags = MessageFlags(MessageFlags::ACK.0 | MessageFlags::CREATE.0 | MessageFlags::EXCL.0);
 
 /// Builds a request about a link: a whole rtnetlink message, such as the one that makes a bond.
 ///
@@ -83,17 +73,17 @@ enum Holder {
 impl Request {
     /// Makes a link with this name: RTM_NEWLINK with NLM_F_CREATE and NLM_F_EXCL.
     pub fn create(name: &str) -> Request {
-        Request::new(RTM_NEWLINK, NLM_F_ACK | NLM_F_CREATE_EXCL, 0).named(name)
+        Request::new(MessageType::RTM_NEWLINK, CREATED, 0).named(name)
     }
 
     /// Changes the link with this index: RTM_NEWLINK.
     pub fn change(index: u32) -> Request {
-        Request::new(RTM_NEWLINK, NLM_F_ACK, index)
+        Request::new(MessageType::RTM_NEWLINK, MessageFlags::ACK, index)
     }
 
     /// Deletes the link with this index: RTM_DELLINK.
     pub fn delete(index: u32) -> Request {
-        Request::new(RTM_DELLINK, NLM_F_ACK, index)
+        Request::new(MessageType::RTM_DELLINK, MessageFlags::ACK, index)
     }
 
     /// Asks for the link with this name: RTM_GETLINK.
@@ -103,23 +93,23 @@ impl Request {
 
     /// Asks for the link with this index: RTM_GETLINK.
     pub fn get_index(index: u32) -> Request {
-        Request::new(RTM_GETLINK, 0, index)
+        Request::new(MessageType::RTM_GETLINK, MessageFlags::default(), index)
     }
 
     /// Asks for all links: RTM_GETLINK with NLM_F_DUMP.
     pub fn dump() -> Request {
-        Request::new(RTM_GETLINK, NLM_F_DUMP, 0)
+        Request::new(MessageType::RTM_GETLINK, MessageFlags::DUMP, 0)
     }
 
     /// Sets VLANs and port options of the bridge or bridge port with this index: RTM_SETLINK of AF_BRIDGE. Its options
     /// are lists of [`AfSpecBridge`](crate::AfSpecBridge) and [`BridgePort`](crate::BridgePort).
     pub fn bridge(index: u32) -> Request {
-        Request::new(RTM_SETLINK, NLM_F_ACK, index).address_family(AF_BRIDGE)
+        Request::new(MessageType::RTM_SETLINK, MessageFlags::ACK, index).address_family(AddressFamily::BRIDGE)
     }
 
     /// Deletes VLANs of the bridge or bridge port with this index: RTM_DELLINK of AF_BRIDGE. The link stays.
     pub fn bridge_delete(index: u32) -> Request {
-        Request::new(RTM_DELLINK, NLM_F_ACK, index).address_family(AF_BRIDGE)
+        Request::new(MessageType::RTM_DELLINK, MessageFlags::ACK, index).address_family(AddressFamily::BRIDGE)
     }
 
     /// Adds properties to the link with this index: RTM_NEWLINKPROP with NLM_F_CREATE, NLM_F_EXCL and NLM_F_APPEND. They are in
@@ -134,17 +124,18 @@ impl Request {
     /// # Ok::<(), WriteError>(())
     /// ```
     pub fn property(index: u32) -> Request {
-        Request::new(RTM_NEWLINKPROP, NLM_F_ACK | NLM_F_CREATE_EXCL | NLM_F_APPEND, index)
+        Request::new(MessageType::RTM_NEWLINKPROP, CREATED | MessageFlags::APPEND, index)
     }
 
     /// Deletes properties of the link with this index: RTM_DELLINKPROP.
     pub fn property_delete(index: u32) -> Request {
-        Request::new(RTM_DELLINKPROP, NLM_F_ACK, index)
+        Request::new(MessageType::RTM_DELLINKPROP, MessageFlags::ACK, index)
     }
 
     /// Makes a request of this type (`nlmsg_type`) with these flags (`nlmsg_flags`), to which NLM_F_REQUEST is added, and
     /// with this interface index.
-    pub fn new(kind: u16, flags: u16, index: u32) -> Request {
+    pub fn new(kind: impl Into<MessageType>, flags: impl Into<MessageFlags>, index: u32) -> Request {
+        let (kind, flags) = (kind.into().0, flags.into().0);
         let head = RawHead { kind, flags, index: index as i32, ..RawHead::default() };
         Request { head, attributes: List::new(), kind: None, options: Vec::new() }
     }
@@ -156,22 +147,22 @@ impl Request {
     }
 
     /// Sets the address family (`ifi_family`).
-    pub fn address_family(mut self, address_family: u8) -> Request {
-        self.head.address_family = address_family;
+    pub fn address_family(mut self, address_family: impl Into<AddressFamily>) -> Request {
+        self.head.address_family = address_family.into().0;
         self
     }
 
     /// Sets the link up (IFF_UP).
     pub fn up(mut self) -> Request {
-        self.head.link_flags |= IFF_UP;
-        self.head.change |= IFF_UP;
+        self.head.link_flags |= LinkFlags::UP.0;
+        self.head.change |= LinkFlags::UP.0;
         self
     }
 
     /// Sets the link down.
     pub fn down(mut self) -> Request {
-        self.head.link_flags &= !IFF_UP;
-        self.head.change |= IFF_UP;
+        self.head.link_flags &= !LinkFlags::UP.0;
+        self.head.change |= LinkFlags::UP.0;
         self
     }
 
@@ -278,7 +269,7 @@ impl Request {
 
     /// Returns what holds the options of a set, or `None` if the request has no place for them.
     fn holder(&self, family: Family) -> Option<Holder> {
-        let is_bridge = self.head.address_family == AF_BRIDGE;
+        let is_bridge = self.head.address_family == AddressFamily::BRIDGE.0;
         match family {
             Family::Link => Some(Holder::Message),
             Family::AfSpecBridge if is_bridge => Some(Holder::Attribute(IFLA_AF_SPEC.kind())),

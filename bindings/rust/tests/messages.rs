@@ -48,15 +48,34 @@ fn a_message_has_fields() {
     let bytes = [first.clone(), message(3, &[0; 4])].concat();
     let found: Vec<_> = messages(&bytes).map(|it| it.expect("it is well-formed")).collect();
     let it = found[0];
-    assert_eq!((it.at(), it.message_type(), it.flags(), it.sequence(), it.port()), (0, 16, 2, 5, 7));
-    assert_eq!((it.is_link(), it.index(), it.link_flags(), it.change()), (true, 9, 1, 1));
-    assert_eq!((it.link_type(), it.address_family(), it.payload()), (1, 0, &first[32..]));
+    assert_eq!((it.at(), it.sequence(), it.port()), (0, 5, 7));
+    assert_eq!((it.message_type(), it.flags()), (MessageType::RTM_NEWLINK, MessageFlags::MULTI));
+    assert_eq!((it.is_link(), it.index(), it.link_flags(), it.change()), (true, 9, LinkFlags::UP, LinkFlags::UP));
+    assert_eq!((it.link_type(), it.address_family(), it.payload()), (1, AddressFamily::UNSPEC, &first[32..]));
+    // also as numbers
+    assert_eq!(it.message_type(), 16);
+    assert_eq!(it.flags(), 2);
+    assert_eq!(it.link_flags(), 1);
+    assert_eq!(it.address_family(), 0);
     let it = found[1];
-    assert_eq!((it.at(), it.message_type(), it.is_link(), it.payload()), (first.len(), 3, false, &[0; 4][..]));
+    assert_eq!((it.at(), it.message_type()), (first.len(), MessageType::NLMSG_DONE));
+    assert_eq!((it.is_link(), it.payload()), (false, &[0; 4][..]));
     assert_eq!(it.attributes().map(|list| list.len()), Ok(0));
     assert_eq!((it.held::<Bond>(), it.lists().count()), (Ok(None), 0));
     assert_eq!(messages(&[]).count(), 0);
-    assert!(format!("{it:?}").starts_with("Message { at: 40, message_type: 3"));
+    assert!(format!("{it:?}").starts_with("Message { at: 40, message_type: MessageType(NLMSG_DONE), flags: MULTI"));
+}
+
+#[test]
+fn an_index_is_that_of_a_request() -> Result<(), Error> {
+    let bytes = link(0, &[]);
+    // ifi_index is after the header, ifi_family, padding and ifi_type
+    assert_eq!(Request::change(only(&bytes).index()).to_bytes()?[20..24], 9i32.to_ne_bytes());
+    let mut bytes = bytes;
+    bytes[20..24].copy_from_slice(&(-1i32).to_ne_bytes());
+    assert_eq!(only(&bytes).index(), u32::MAX);
+    assert_eq!(Request::change(u32::MAX).to_bytes().map_err(|error| error.code), Err(Code::NoIndex));
+    Ok(())
 }
 
 #[test]
@@ -176,7 +195,8 @@ fn messages_about_properties_are_read() -> Result<(), Fault> {
     for kind in [108, 109, 110] {
         let bytes = message(kind, &body);
         let it = only(&bytes);
-        assert_eq!((it.message_type(), it.is_link(), it.index(), it.payload()), (kind, true, 18, &names[..]));
+        assert_eq!((it.message_type(), it.is_link()), (MessageType(kind), true));
+        assert_eq!((it.index(), it.payload()), (18, &names[..]));
         let lists = it.lists().collect::<Result<Vec<_>, _>>()?;
         assert_eq!(lists.len(), 1);
         assert_eq!(lists[0].to_string(), "IFLA_PROP_LIST\n  IFLA_ALT_IFNAME \"enp2s0f0np0\"\n");
@@ -218,5 +238,5 @@ fn malformed_messages_are_errors() {
     let fault = found[0].expect_err("it has no struct ifinfomsg");
     assert_eq!(fault.to_string(), "error at 0: 21 bytes, too few for a link message");
     assert_eq!(fault.cause(), Cause::TooShort { least: 32, actual: 21 });
-    assert_eq!(found[1].map(|it| (it.at(), it.message_type())), Ok((24, 3)));
+    assert_eq!(found[1].map(|it| (it.at(), it.message_type())), Ok((24, MessageType::NLMSG_DONE)));
 }

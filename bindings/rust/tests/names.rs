@@ -52,6 +52,64 @@ fn flags_have_operators() {
     assert_eq!(u16::from(BridgeVlanFlags::PVID), 2);
 }
 
+/// The numbers in linux/netlink.h, rtnetlink.h, if.h and socket.h.
+#[test]
+fn numbers_of_headers_are_those_of_linux() {
+    let types = [
+        (MessageType::NLMSG_NOOP, 1, "NLMSG_NOOP"),
+        (MessageType::NLMSG_ERROR, 2, "NLMSG_ERROR"),
+        (MessageType::NLMSG_DONE, 3, "NLMSG_DONE"),
+        (MessageType::NLMSG_OVERRUN, 4, "NLMSG_OVERRUN"),
+        (MessageType::RTM_NEWLINK, 16, "RTM_NEWLINK"),
+        (MessageType::RTM_DELLINK, 17, "RTM_DELLINK"),
+        (MessageType::RTM_GETLINK, 18, "RTM_GETLINK"),
+        (MessageType::RTM_SETLINK, 19, "RTM_SETLINK"),
+        (MessageType::RTM_NEWLINKPROP, 108, "RTM_NEWLINKPROP"),
+        (MessageType::RTM_DELLINKPROP, 109, "RTM_DELLINKPROP"),
+        (MessageType::RTM_GETLINKPROP, 110, "RTM_GETLINKPROP"),
+    ];
+    for (it, number, name) in types {
+        assert_eq!((it.0, it.to_string().as_str(), name.parse()), (number, name, Ok(it)));
+    }
+    assert_eq!(MessageType(20).to_string(), "20"); // RTM_NEWADDR
+    let families = [
+        (AddressFamily::UNSPEC, 0, "AF_UNSPEC"),
+        (AddressFamily::INET, 2, "AF_INET"),
+        (AddressFamily::BRIDGE, 7, "AF_BRIDGE"),
+        (AddressFamily::INET6, 10, "AF_INET6"),
+        (AddressFamily::PACKET, 17, "AF_PACKET"),
+        (AddressFamily::MPLS, 28, "AF_MPLS"),
+        (AddressFamily::MCTP, 45, "AF_MCTP"),
+    ];
+    for (it, number, name) in families {
+        assert_eq!((it.0, it.to_string().as_str(), name.parse()), (number, name, Ok(it)));
+    }
+}
+
+/// The bits in linux/netlink.h and if.h.
+#[test]
+fn flags_of_headers_are_those_of_linux() {
+    use MessageFlags as Flags;
+    let common = [Flags::REQUEST, Flags::MULTI, Flags::ACK, Flags::ECHO, Flags::DUMP_INTR, Flags::DUMP_FILTERED];
+    assert_eq!(common.map(u16::from), [1, 2, 4, 8, 0x10, 0x20]);
+    assert_eq!([Flags::ROOT, Flags::MATCH, Flags::ATOMIC, Flags::DUMP].map(u16::from), [0x100, 0x200, 0x400, 0x300]);
+    let new = [Flags::REPLACE, Flags::EXCL, Flags::CREATE, Flags::APPEND];
+    assert_eq!(new.map(u16::from), [0x100, 0x200, 0x400, 0x800]);
+    assert_eq!(
+        [Flags::NONREC, Flags::BULK, Flags::CAPPED, Flags::ACK_TLVS].map(u16::from),
+        [0x100, 0x200, 0x100, 0x200]
+    );
+    assert_eq!(format!("{:?}", Flags::REQUEST | Flags::DUMP), "REQUEST|0x300");
+    let names =
+        "UP|BROADCAST|DEBUG|LOOPBACK|POINTOPOINT|NOTRAILERS|RUNNING|NOARP|PROMISC|ALLMULTI|MASTER|SLAVE|MULTICAST|\
+                 PORTSEL|AUTOMEDIA|DYNAMIC|LOWER_UP|DORMANT|ECHO|0x80000";
+    assert_eq!(format!("{:?}", LinkFlags((1 << 20) - 1)), names);
+    assert_eq!(
+        (LinkFlags::UP, LinkFlags::LOWER_UP, LinkFlags::ECHO),
+        (LinkFlags(1), LinkFlags(0x10000), LinkFlags(0x40000))
+    );
+}
+
 #[test]
 fn keys_are_compared_and_hashed() {
     assert_eq!(IFLA_BOND_MIIMON, IFLA_BOND_MIIMON);

@@ -156,7 +156,7 @@ fn first_error_is_found() {
         (Request::create("a").options(&List::<Inet6>::new()), "inet6", 0, Code::NoSet),
         (Request::delete(0), "ifi_index", 0, Code::NoIndex),
         (Request::change(u32::MAX), "ifi_index", 0, Code::NoIndex),
-        (Request::new(20, 4, 1), "nlmsg_type", 0, Code::BadType),
+        (Request::new(MessageType(20), MessageFlags::ACK, 1), "nlmsg_type", 0, Code::BadType),
     ];
     for (request, name, index, code) in rows {
         let error = request.to_bytes().expect_err(name);
