@@ -138,7 +138,8 @@ def type_text(type_, model):
     kept = "Bits without a name are kept." if type_.is_flags else "Numbers without a name are kept."
     lines = []
     for it in type_.names:
-        name = "" if type_.is_flags else f', "{it.text}"'
+        # (the text of a flag is its name, if that may be one)
+        name = "" if type_.is_flags and it.text == it.constant else f', "{it.text}"'
         lines.append(f"    {it.constant} = {it.number}{name};\n")
     macro = "flags" if type_.is_flags else "named"
     return f"{macro}! {{\n{comment(f'{what} {of}. {kept}')}    {type_.name}: u{type_.bits};\n{''.join(lines)}}}\n"

@@ -359,7 +359,7 @@ flags! {
     CanCtrlMode: u32;
     LOOPBACK = 0;
     LISTENONLY = 1;
-    TRIPLE_SAMPLES = 2;
+    TRIPLE_SAMPLES = 2, "3_SAMPLES";
     ONE_SHOT = 3;
     BERR_REPORTING = 4;
     FD = 5;

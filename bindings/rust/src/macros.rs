@@ -171,7 +171,7 @@ macro_rules! named {
 
 /// Defines a set of flags of the kernel: a number, some of whose bits have names.
 macro_rules! bits {
-    ($(#[$doc:meta])* $type:ident: $number:ty; $($name:ident = $bit:literal;)*) => {
+    ($(#[$doc:meta])* $type:ident: $number:ty; $($name:ident = $bit:literal $(, $text:literal)?;)*) => {
         $(#[$doc])*
         #[derive(Clone, Copy, PartialEq, Eq, Hash, Default)]
         pub struct $type(
@@ -225,7 +225,16 @@ macro_rules! bits {
         impl std::fmt::Debug for $type {
             /// Writes the names, and in hexadecimal the bits that have none: `GVRP|0x40`.
             fn fmt(&self, f: &mut std::fmt::Formatter<'_>) -> std::fmt::Result {
-                $crate::types::write_flags(f, self.0.into(), &[$(($bit, stringify!($name))),*])
+                f.write_str(&$crate::types::flags_text(self.0.into(), &[$(($bit, stringify!($name))),*], "0x0"))
+            }
+        }
+
+        impl std::fmt::Display for $type {
+            /// Writes the names, as `nlshow` does, and in hexadecimal the bits that have none: `GVRP|0x40`. The empty set is
+            /// `0`.
+            fn fmt(&self, f: &mut std::fmt::Formatter<'_>) -> std::fmt::Result {
+                let names = [$(($bit, [$($text,)? stringify!($name)][0])),*];
+                f.pad(&$crate::types::flags_text(self.0.into(), &names, "0"))
             }
         }
 

@@ -314,17 +314,19 @@ pub(crate) fn decimal<T: FromStr>(text: &str) -> Option<T> {
     is_number.then(|| text.parse().ok()).flatten()
 }
 
-/// Writes the names of flags, and in hexadecimal the bits that have none.
-pub(crate) fn write_flags(f: &mut fmt::Formatter<'_>, flags: u32, names: &[(u32, &str)]) -> fmt::Result {
-    let mut separator = "";
+/// Returns the names of flags, and in hexadecimal the bits that have none. `empty` is the text of the empty set.
+pub(crate) fn flags_text(flags: u32, names: &[(u32, &str)], empty: &str) -> String {
+    let mut words = Vec::new();
     let mut rest = flags;
     for (bit, name) in names.iter().filter(|(bit, _)| flags >> bit & 1 == 1) {
-        write!(f, "{separator}{name}")?;
-        separator = "|";
+        words.push(name.to_string());
         rest &= !(1 << bit);
     }
-    if rest != 0 || flags == 0 {
-        write!(f, "{separator}{rest:#x}")?;
+    if rest != 0 {
+        words.push(format!("{rest:#x}"));
     }
-    Ok(())
+    if flags == 0 {
+        words.push(empty.to_string());
+    }
+    words.join("|")
 }

@@ -52,6 +52,25 @@ fn flags_have_operators() {
     assert_eq!(u16::from(BridgeVlanFlags::PVID), 2);
 }
 
+#[test]
+fn flags_are_printed() {
+    let flags = VlanFlags::REORDER_HDR | VlanFlags::GVRP;
+    assert_eq!(flags.to_string(), "REORDER_HDR|GVRP");
+    assert_eq!((flags | VlanFlags(0x80)).to_string(), "REORDER_HDR|GVRP|0x80");
+    assert_eq!((VlanFlags(0x80).to_string(), VlanFlags::default().to_string()), ("0x80".to_string(), "0".to_string()));
+    assert_eq!(format!("[{:>6}]", VlanFlags::GVRP), "[  GVRP]");
+    assert_eq!(LinkFlags(0x41).to_string(), "UP|RUNNING");
+    assert_eq!((MessageFlags::REQUEST | MessageFlags::DUMP).to_string(), "REQUEST|0x300");
+    // a name that no constant can have
+    let modes = CanCtrlMode::TRIPLE_SAMPLES | CanCtrlMode::LOOPBACK;
+    assert_eq!(
+        (modes.to_string(), format!("{modes:?}")),
+        ("LOOPBACK|3_SAMPLES".to_string(), "LOOPBACK|TRIPLE_SAMPLES".to_string())
+    );
+    let list = List::<Can>::new().with(IFLA_CAN_CTRLMODE, Masked { flags: modes, mask: modes });
+    assert!(list.to_string().contains(&modes.to_string()), "{list}");
+}
+
 /// The numbers in linux/netlink.h, rtnetlink.h, if.h and socket.h.
 #[test]
 fn numbers_of_headers_are_those_of_linux() {
