@@ -31,7 +31,12 @@ class Texts(IntEnum):
 
     @classmethod
     def _missing_(cls, value: object) -> Any:
-        return next((member for member in cls if member.text == value), None) if isinstance(value, str) else None
+        if not isinstance(value, str):
+            return None
+        found = next((member for member in cls if member.text == value), None)
+        if found is None:
+            raise ValueError(f"{value!r} is not a valid {cls.__name__}: {', '.join(member.text for member in cls)}")
+        return found
 
     def __str__(self) -> str:
         return self.text or str(int(self))

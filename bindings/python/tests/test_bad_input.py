@@ -54,6 +54,8 @@ class Reading(unittest.TestCase):
 
     def test_unknown_family(self):
         for function in (lambda: read(77, b""), lambda: text(77, b""), lambda: List(77), lambda: List.within(77, "x")):
+            with self.assertRaisesRegex(ValueError, "^'Bond' is not a valid Family: af_spec_bridge, bond, bond_port, "):
+                Family("Bond")
             with self.assertRaisesRegex(ValueError, "^77 is not a valid Family$"):
                 function()
 
@@ -176,9 +178,10 @@ class Writing(unittest.TestCase):
         self.assertEqual(written(Family.BOND, "IFLA_BOND_MODE", mode), data)
 
     def test_unknown_name(self):
-        with self.assertRaisesRegex(ValueError, "^'802.3xx' is not a valid BondMode$"):
+        names = "balance-rr, active-backup, balance-xor, broadcast, 802.3ad, balance-tlb, balance-alb"
+        with self.assertRaisesRegex(ValueError, f"^'802.3xx' is not a valid BondMode: {names}$"):
             BondMode("802.3xx")
-        with self.assertRaisesRegex(ValueError, "^IFLA_BOND_MODE: '802.3xx' is not a valid BondMode$"):
+        with self.assertRaisesRegex(ValueError, f"^IFLA_BOND_MODE: '802.3xx' is not a valid BondMode: {names}$"):
             written(Family.BOND, "IFLA_BOND_MODE", "802.3xx")
 
     def test_flag_without_a_name(self):

@@ -305,12 +305,29 @@ impl std::error::Error for ParseMacError {}
 
 /// Reports a string that is not a name or a number of an enum, such as [`BondMode`](crate::BondMode), or not the name of
 /// a [`Family`].
+///
+/// `Display` writes which names there are: `not a name or a number of ChurnState: monitor, churn, no_churn`.
 #[derive(Clone, Debug, PartialEq, Eq)]
-pub struct ParseNameError(pub(crate) &'static str);
+pub struct ParseNameError {
+    pub(crate) reason: &'static str,
+    pub(crate) names: &'static [&'static str],
+}
+
+impl ParseNameError {
+    /// Returns the names that would be parsed.
+    ///
+    /// ```
+    /// let error = "rx".parse::<nlroute::BondFailOverMac>().unwrap_err();
+    /// assert_eq!(error.names(), ["none", "active", "follow"]);
+    /// ```
+    pub fn names(&self) -> &'static [&'static str] {
+        self.names
+    }
+}
 
 impl fmt::Display for ParseNameError {
     fn fmt(&self, f: &mut fmt::Formatter<'_>) -> fmt::Result {
-        f.write_str(self.0)
+        write!(f, "{}: {}", self.reason, self.names.join(", "))
     }
 }
 

@@ -58,7 +58,8 @@ macro_rules! families {
 
             /// Parses a [`name`](Family::name).
             fn from_str(text: &str) -> Result<Family, $crate::ParseNameError> {
-                Family::from_name(text).ok_or($crate::ParseNameError("not the name of an attribute set"))
+                let error = $crate::ParseNameError { reason: "not the name of an attribute set", names: &[$($name),*] };
+                Family::from_name(text).ok_or(error)
             }
         }
     };
@@ -115,7 +116,8 @@ macro_rules! names {
 
             /// Parses what `Display` writes: a name, in the same case, or a decimal number.
             fn from_str(text: &str) -> Result<$type, $crate::ParseNameError> {
-                let error = $crate::ParseNameError(concat!("not a name or a number of ", stringify!($type)));
+                let reason = concat!("not a name or a number of ", stringify!($type));
+                let error = $crate::ParseNameError { reason, names: &[$($text),*] };
                 $type::from_name(text).or_else(|| $crate::types::decimal(text).map($type)).ok_or(error)
             }
         }

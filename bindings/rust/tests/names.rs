@@ -10,7 +10,9 @@ fn enums_are_parsed_and_converted() {
     assert_eq!("255".parse(), Ok(BondMode(255)));
     for text in ["", "256", "-1", "+4", "4 ", "0x4", "802.3AD", "٤"] {
         let error = text.parse::<BondMode>().expect_err(text);
-        assert_eq!(error.to_string(), "not a name or a number of BondMode");
+        let names = "balance-rr, active-backup, balance-xor, broadcast, 802.3ad, balance-tlb, balance-alb";
+        assert_eq!(error.to_string(), format!("not a name or a number of BondMode: {names}"));
+        assert_eq!(error.names().join(", "), names);
     }
     // what is printed is parsed again, also a number without a name
     for number in 0..=255 {
@@ -30,7 +32,9 @@ fn families_are_parsed_and_printed() {
     }
     assert_eq!(format!("[{:>6}]", Family::Bond), "[  bond]");
     let error = "Bond".parse::<Family>().expect_err("names have small letters");
-    assert_eq!(error.to_string(), "not the name of an attribute set");
+    let words = error.to_string();
+    assert!(words.starts_with("not the name of an attribute set: af_spec_bridge, bond, bond_port, "), "{words}");
+    assert_eq!(error.names().len(), Family::ALL.len());
 }
 
 #[test]
