@@ -48,6 +48,8 @@ class Request:
     76
     >>> bytes(Request.change(3).master(7).up())[32:].hex()
     '08000a0007000000'
+    >>> Request.change(3).master(7).up()
+    <Request RTM_NEWLINK flags=ACK index=3 link_flags=UP link_change=UP <LINK IFLA_MASTER=7>>
 
     Raises WriteError if an attribute or element cannot be written, with its name and its index: that of options in the list
     that was passed, that of other attributes in the message. Of an error in the header, the name is that of the field.
@@ -196,6 +198,14 @@ class Request:
             raise TypeError(f"{lists._table.title} is not a whole list: it is the value of an attribute")
         self._options.append(List._of(lists._table, list(lists._items)))  # (as it is now)
         return self
+
+    def __repr__(self) -> str:
+        words = [str(self.type), f"flags={self.flags}", f"index={self.index}"]
+        for name in "address_family", "sequence", "port", "link_flags", "link_change":
+            words += [f"{name}={getattr(self, name)}"] if getattr(self, name) else []
+        words += [] if self._kind is None else [f"kind={self._kind!r}"]
+        lists = [it for it in (self._attributes, *self._options) if len(it) or it is not self._attributes]
+        return f"<Request {' '.join([*words, *map(repr, lists)])}>"
 
     def __bytes__(self) -> bytes:
         """The message as it is sent. Raises WriteError, TypeError or ValueError if it cannot be written."""

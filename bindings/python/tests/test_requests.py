@@ -586,6 +586,18 @@ class OneOfEach(unittest.TestCase):
         bond["IFLA_BOND_MIIMON"] = 2
         self.assertEqual(bytes(request), before)
 
+    def test_repr(self):
+        rows = [
+            (change().master(7).up(), "RTM_NEWLINK flags=ACK index=3 link_flags=UP link_change=UP <LINK IFLA_MASTER=7>"),
+            (Request.create("d0").kind("dummy"), "RTM_NEWLINK flags=ACK|0x600 index=0 kind='dummy' <LINK IFLA_IFNAME='d0'>"),
+            (Request.bridge(3), "RTM_SETLINK flags=ACK index=3 address_family=AF_BRIDGE"),
+            (change().options(BOND), f"RTM_NEWLINK flags=ACK index=3 {BOND!r}"),
+            (change().options(Family.VRF), "RTM_NEWLINK flags=ACK index=3 <VRF>"),
+            (Request("x", None, "3"), "x flags=None index=3"),  # (checked when it is written)
+        ]
+        for request, words in rows:
+            self.assertEqual(repr(request), f"<Request {words}>")
+
 
 if __name__ == "__main__":
     unittest.main()

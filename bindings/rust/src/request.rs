@@ -10,7 +10,9 @@ use crate::list::List;
 use crate::scope::{Key, Set};
 use crate::sys::{self, Raw, RawHead};
 use crate::types::{Held, Mac, Text};
+use crate::value::Iter;
 use crate::{AddressFamily, Family, LinkFlags, MessageFlags, MessageType};
+use std::fmt;
 
 /// The offset of a value after which the values of its list follow.
 const INLINE: u64 = u64::MAX;
@@ -36,7 +38,7 @@ const CREATED: MessageFlags = MessageFlags(MessageFlags::ACK.0 | MessageFlags::C
 /// assert_eq!(bytes[32..], [8, 0, 10, 0, 7, 0, 0, 0]);
 /// # Ok::<(), WriteError>(())
 /// ```
-#[derive(Clone, Debug, PartialEq, Eq)]
+#[derive(Clone, PartialEq, Eq)]
 #[must_use]
 pub struct Request {
     head: RawHead,
@@ -45,12 +47,47 @@ pub struct Request {
     options: Vec<Options>,
 }
 
+impl fmt::Debug for Request {
+    /// Writes the fields of the headers, those from `address_family` on unless they are 0; then the attributes, the kind and the
+    /// options, if there are any.
+    fn fmt(&self, f: &mut fmt::Formatter<'_>) -> fmt::Result {
+        let RawHead { kind, flags, index, .. } = self.head;
+        let mut text = f.debug_struct("Request");
+        text.field("message_type", &MessageType(kind)).field("flags", &MessageFlags(flags)).field("index", &index);
+        if self.head.address_family != 0 {
+            text.field("address_family", &AddressFamily(self.head.address_family));
+        }
+        if self.head.sequence != 0 {
+            text.field("sequence", &self.head.sequence);
+        }
+        if self.head.change != 0 {
+            text.field("link_flags", &LinkFlags(self.head.link_flags)).field("change", &LinkFlags(self.head.change));
+        }
+        if !self.attributes.is_empty() {
+            text.field("attributes", &self.attributes);
+        }
+        if let Some(kind) = &self.kind {
+            text.field("kind", &String::from_utf8_lossy(kind));
+        }
+        for options in &self.options {
+            text.field(options.family.name(), options);
+        }
+        text.finish()
+    }
+}
+
 /// A list of options.
-#[derive(Clone, Debug, PartialEq, Eq)]
+#[derive(Clone, PartialEq, Eq)]
 struct Options {
     family: Family,
     values: Vec<Raw>,
     bytes: Vec<u8>,
+}
+
+impl fmt::Debug for Options {
+    fn fmt(&self, f: &mut fmt::Formatter<'_>) -> fmt::Result {
+        Iter { family: self.family, values: &self.values, bytes: &self.bytes }.fmt(f)
+    }
 }
 
 impl Options {

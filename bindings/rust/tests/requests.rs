@@ -410,3 +410,20 @@ fn attributes_of_the_message_are_set_and_sent_again() -> Result<(), Error> {
     assert_eq!(Request::bridge(3).options(&message.attributes()?).to_bytes()?, bytes);
     Ok(())
 }
+
+#[test]
+fn a_request_is_printed_for_debugging() {
+    let bond = List::<Bond>::new().with(IFLA_BOND_MODE, BondMode::IEEE8023AD).with(IFLA_BOND_MIIMON, 100);
+    let request = Request::change(3).master(7).up().options(&bond);
+    let head = "Request { message_type: MessageType(RTM_NEWLINK), flags: ACK, index: 3, ";
+    let rest = "link_flags: UP, change: UP, attributes: [IFLA_MASTER: Unsigned(7)], \
+                bond: [IFLA_BOND_MODE: Named(4), IFLA_BOND_MIIMON: Unsigned(100)] }";
+    assert_eq!(format!("{request:?}"), format!("{head}{rest}"));
+    let words = format!("{:?}", Request::create("d0").kind("dummy").sequence(5));
+    assert!(words
+        .starts_with("Request { message_type: MessageType(RTM_NEWLINK), flags: ACK|0x600, index: 0, sequence: 5, "));
+    assert!(words.ends_with("kind: \"dummy\" }"), "{words}");
+    let words = format!("{:?}", Request::bridge(3));
+    let bridge = "Request { message_type: MessageType(RTM_SETLINK), flags: ACK, index: 3, address_family: AddressFamily(AF_BRIDGE) }";
+    assert_eq!(words, bridge);
+}
