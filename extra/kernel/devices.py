@@ -49,7 +49,7 @@ def value(key, text):
     if str(text).startswith("["):
         return [value(key, text[1:-1])]
     if key in ("VETH_INFO_PEER", "IFLA_NETKIT_PEER_INFO"):
-        return bytes(16) + bytes(List(Family.LINK, {IFLA_IFNAME: text}))
+        return {IFLA_IFNAME: text}
     if "/" in str(text):
         return tuple(int(it) for it in text.split("/"))
     try:

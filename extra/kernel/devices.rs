@@ -41,10 +41,7 @@ told! {
     Masked<VlanFlags>: |text| two(text).map(|(flags, mask)| Masked { flags: VlanFlags(flags), mask: VlanFlags(mask) });
     VlanInfo: |text| two(text).map(|(vid, flags)| VlanInfo { vid, flags: BridgeVlanFlags(flags) });
     QosMapping: |text| two(text).map(|(from, to)| QosMapping { from, to });
-    Peer: |text| {
-        let attributes = List::<Link>::new().with(IFLA_IFNAME, text.into()).to_bytes().ok()?;
-        Some(Peer { attributes, ..Peer::default() })
-    };
+    Peer: |text| Peer::new(&List::new().with(IFLA_IFNAME, text.into())).ok();
 }
 
 impl<T: Told> Told for Vec<T> {

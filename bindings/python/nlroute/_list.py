@@ -215,13 +215,7 @@ class List:
         """The list as it is sent. Raises WriteError, TypeError or ValueError if a value cannot be written."""
         if self._table.list_row:
             raise TypeError(f"{self._table.title} is not a whole list: it is the value of an attribute")
-        writer = _write.Writer(self._table)
-        error = writer.add_all(self._items)
-        # (an attribute before the one that has the error may have another)
-        data = _library.write(self.family, b"".join(writer.records), bytes(writer.octets), writer.owners)
-        if error:
-            raise error
-        return data
+        return _write.write(self._table, self._items)
 
     def __str__(self) -> str:
         """text() of the list. Raises as bytes() does."""

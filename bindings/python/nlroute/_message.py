@@ -8,7 +8,7 @@ from . import _library, _plain
 from ._headers import AddressFamily, LinkFlags, MessageFlags, MessageType
 from ._kinds import Family, Form
 from ._list import List
-from ._records import PEER_HEADER, VALUE, MessageRecord, record
+from ._records import PEER_FIELDS, PEER_HEADER, VALUE, MessageRecord, record
 from ._tables import TABLES
 
 LEVELS = 6  # of lists that are opened below the attributes of a message
@@ -78,7 +78,7 @@ class Message:
         """Returns the fields and the attributes, as `List.to_dict` does. Raises Fault if the attributes are malformed."""
         found: dict[str, Any] = {name: int(getattr(self, name)) for name in ("type", "flags", "sequence", "port")}
         if self.is_link:
-            found |= {name: int(getattr(self, name)) for name in _plain.HEADER}
+            found |= {name: int(getattr(self, name)) for name in PEER_FIELDS}
             found["attributes"] = _plain.to_dict(TABLES[Family.LINK], self.payload, self.address_family, self._start)
         return found
 

@@ -8,7 +8,7 @@ from ._errors import Fault
 from ._kinds import Family, Form
 from ._library import kind_name, opens, value_text
 from ._read import content, groups, is_array, payload, struct_fields_of
-from ._records import IFINFOMSG, PEER_HEADER, Record, record
+from ._records import IFINFOMSG, PEER_FIELDS, PEER_HEADER, Record, record
 from ._tables import TABLES, Table
 from ._types import Flags, Mac, Named, Row, Text
 
@@ -19,10 +19,6 @@ REPEATED = {
     ("IFLA_MACVLAN_MACADDR_DATA", "IFLA_MACVLAN_MACADDR"),
     ("IFLA_PROP_LIST", "IFLA_ALT_IFNAME"),
 }
-
-
-# The fields of a struct ifinfomsg, by the names of `Message`.
-HEADER = "address_family", "link_type", "index", "link_flags", "change"
 
 
 def to_dict(table: Table, data: bytes, address_family: int = 0, start: int = 0) -> dict[str, Any]:
@@ -90,7 +86,7 @@ def held(table: Table, raw: bytes, it: Record, data: bytes, address_family: int,
     found, at = payload(it, data), start + it.offset
     if it.form != Form.PEER:
         return read_or_marked(family, found, address_family, at)
-    header = dict(zip(HEADER, IFINFOMSG.unpack_from(found)))
+    header = dict(zip(PEER_FIELDS, IFINFOMSG.unpack_from(found)))
     below = read_or_marked(family, found[PEER_HEADER:], header["address_family"], at + PEER_HEADER)
     return {**header, "attributes": below}
 

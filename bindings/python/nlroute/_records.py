@@ -64,6 +64,8 @@ HEADER = 4  # bytes of struct nlattr
 # The struct ifinfomsg that is before the attributes of NLROUTE_FORM_PEER.
 IFINFOMSG = struct.Struct("=BxHiII")
 PEER_HEADER = IFINFOMSG.size
+# The names of its fields in `Message`, and in a dict of a peer, which has the attributes as "attributes".
+PEER_FIELDS = "address_family", "link_type", "index", "link_flags", "change"
 
 
 def record(raw: bytes | memoryview, index: int) -> Record:

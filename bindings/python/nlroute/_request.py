@@ -209,7 +209,7 @@ class Request:
 
     def __bytes__(self) -> bytes:
         """The message as it is sent. Raises WriteError, TypeError or ValueError if it cannot be written."""
-        parts = Parts(self._head())
+        parts = Parts(self._head(), self.address_family)
         parts.add_list(self._attributes, 0)
         for options in self._options:
             family, holder = options.family, self._holder(options.family)
@@ -283,8 +283,8 @@ def port_kind(family: Family) -> str:
 class Parts:
     """The records of a request, the bytes that they refer to, and what each record is of."""
 
-    def __init__(self, head: bytes) -> None:
-        self.head = head
+    def __init__(self, head: bytes, address_family: int) -> None:
+        self.head, self.address_family = head, address_family
         self.records: list[bytes] = []
         self.octets = bytearray()
         self.owners: list[tuple[int, str]] = []
@@ -296,7 +296,7 @@ class Parts:
 
         Raises as bytes() does.
         """
-        writer = Writer(items._table)
+        writer = Writer(items._table, self.address_family)
         error = writer.add_all(items._items)
         if holder and writer.records:
             self.add(*holder, depth - 1, Form.HELD, INLINE)

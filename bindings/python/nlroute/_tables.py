@@ -22,6 +22,7 @@ class Table:
         self.list_kind = list_row.kind if list_row else None
         self.by_kind = {row.kind: row for row in rows}
         self.by_name = {row.name: row for row in rows}
+        self.holders = {row.name for row in rows if row.form in (Form.HELD, Form.PEER)}  # of lists of other sets
         self.below = {row.kind: Table(family, row.elements, row) for row in rows if row.elements}
         # To read fast: attributes by both numbers of `_records.HEAD`, and the names of plain numbers by the first one.
         self.numbers: dict[int, str] = {}

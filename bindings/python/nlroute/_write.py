@@ -7,10 +7,11 @@ from ipaddress import AddressValueError, IPv4Address, IPv6Address
 from operator import index as whole_number
 from typing import Any, Union
 
+from . import _library
 from ._errors import WriteError
-from ._kinds import Code, Form
-from ._records import VALUE
-from ._tables import Table
+from ._kinds import Code, Family, Form
+from ._records import IFINFOMSG, PEER_FIELDS, VALUE
+from ._tables import TABLES, Table
 from ._types import Attribute, Mac, Name, Named, Row, Text, Unknown
 
 Values = Union[Mapping[Any, Any], Iterable[tuple[Name, Any]]]  # (the keys of a mapping are names)
@@ -27,11 +28,28 @@ def pairs(values: Values, title: str = "") -> Iterator[tuple[Any, Any]]:
         yield item[0], item[1]
 
 
-class Writer:
-    """The records of attributes, the bytes that they refer to, and which attribute each record is of."""
+def write(table: Table, items: list[Attribute], address_family: int = 0) -> bytes:
+    """Returns a list as it is sent, in a message of this address family.
 
-    def __init__(self, table: Table) -> None:
-        self.table = table
+    Raises WriteError, TypeError, ValueError or KeyError if a value cannot be written.
+    """
+    writer = Writer(table, address_family)
+    error = writer.add_all(items)
+    # (an attribute before the one that has the error may have another)
+    data = _library.write(table.family, b"".join(writer.records), bytes(writer.octets), writer.owners)
+    if error:
+        raise error
+    return data
+
+
+class Writer:
+    """The records of attributes, the bytes that they refer to, and which attribute each record is of.
+
+    `address_family` is that of the message, on which the sets of lists in attributes depend.
+    """
+
+    def __init__(self, table: Table, address_family: int = 0) -> None:
+        self.table, self.address_family = table, address_family
         self.records: list[bytes] = []
         self.octets = bytearray()
         self.owners: list[tuple[int, str]] = []
@@ -54,6 +72,8 @@ class Writer:
         """Adds the attribute that has this index in its list. Raises as add_all() does, and WriteError."""
         name, value = attribute
         row = self.table.row(name)
+        if row.form in (Form.HELD, Form.PEER, Form.LIST):
+            value = self.with_bytes(index, row, value)
         if row.form != Form.LIST:
             self.put(index, row, (row.kind, 0, 0), value)
             return
@@ -84,6 +104,63 @@ class Writer:
         for name, item in pairs(value, f"{row.name}: "):
             yield below.row(name), name, item
 
+    def with_bytes(self, index: int, row: Row, value: Any) -> Any:
+        """Returns the value of an attribute, with bytes for each list of another set that is a dict or a list."""
+        if row.form == Form.PEER:
+            return self.peer(index, row.name, value) if is_list(value) else value
+        if row.form == Form.HELD:
+            if not is_list(value):
+                return value
+            (family,) = self.families(index, Attribute(row.name, b""), [0])
+            return self.held(index, row.name, value, family)
+        below = self.table.below.get(row.kind)
+        if not below or not below.holders or not is_list(value):
+            return value
+        items = list(pairs(value, f"{row.name}: "))
+        found = [at for at, (name, it) in enumerate(items) if name in below.holders and is_list(it)]
+        # (other elements, such as an IFLA_INFO_KIND, tell the sets of these)
+        without = [(name, b"" if at in found else it) for at, (name, it) in enumerate(items)]
+        families = self.families(index, Attribute(row.name, without), [1 + at for at in found]) if found else []
+        for at, family in zip(found, families):
+            name, it = items[at]
+            items[at] = name, self.held(index, name, it, family)
+        return items
+
+    def families(self, index: int, attribute: Any, places: list[int]) -> list[Family | None]:
+        """Returns the sets that read the lists in an attribute: those of the records at these places."""
+        writer, family = Writer(self.table, self.address_family), self.table.family
+        writer.add(index, attribute)
+        data = _library.write(family, b"".join(writer.records), bytes(writer.octets), writer.owners)
+        raw = bytes(_library.values(family, data))
+        records = [raw[at * VALUE.size : (at + 1) * VALUE.size] for at in places]
+        return [_library.opens(family, self.address_family, it, data) for it in records]
+
+    def held(self, index: int, name: str, value: Any, family: Family | None, address_family: int | None = None) -> bytes:
+        """Returns the bytes of a list of another set, which is that of `family`."""
+        own: Table | None = getattr(value, "_table", None)
+        if family is None or (own and own is not TABLES[family]):
+            raise WriteError(name, index, Code.NO_SET)
+        items = [Attribute(*pair) for pair in pairs(value, f"{name}: ")]
+        try:
+            return write(TABLES[family], items, self.address_family if address_family is None else address_family)
+        except WriteError as error:
+            raise WriteError(error.name, index, error.code) from None
+
+    def peer(self, index: int, name: str, value: Any) -> bytes:
+        """Returns the bytes of the other end of a link: a header, and a list of attributes of a link."""
+        fields: dict[Any, Any] = {}
+        if isinstance(value, Mapping) and "attributes" in value:
+            fields = dict(value)
+            value = fields.pop("attributes")
+        numbers = [whole_number(fields.pop(field, 0)) for field in PEER_FIELDS]
+        if fields:
+            raise KeyError(f"{name} has no {next(iter(fields))}")
+        try:
+            header = IFINFOMSG.pack(*numbers)
+        except struct.error:
+            raise WriteError(name, index, Code.BAD_NUMBER) from None
+        return header + self.held(index, name, value, Family.LINK, numbers[0])
+
     def put(self, index: int, row: Row, place: tuple[int, int, int], value: Any, name: str = "") -> None:
         """Adds a record. `place` has its fields kind, inner and depth."""
         name = name or row.name
@@ -104,6 +181,11 @@ class Writer:
             raise WriteError(name, index, Code.BAD_NUMBER) from None
         self.records.append(packed)
         self.owners.append((index, name))
+
+
+def is_list(value: Any) -> bool:
+    """Returns whether a value is a dict, a List or a list of pairs, in place of the bytes of a list."""
+    return isinstance(value, (Mapping, list)) or hasattr(value, "_table")
 
 
 class Unfit(Exception):

@@ -1,6 +1,6 @@
 //! Types of values that are structs of the kernel or addresses.
 
-use crate::error::ParseMacError;
+use crate::error::{ParseMacError, WriteError};
 use crate::{BridgeVlanFlags, Fault, Link, List, Set};
 use std::borrow::Cow;
 use std::fmt;
@@ -134,7 +134,17 @@ impl Held {
     }
 }
 
-/// Holds the other end of a link, in a request that makes both (`VETH_INFO_PEER`).
+/// Holds the other end of a link, in a request that makes both (`VETH_INFO_PEER`, `IFLA_NETKIT_PEER_INFO`).
+///
+/// ```
+/// use nlroute::*;
+///
+/// let name = List::<Link>::new().with(IFLA_IFNAME, Text::from("e1"));
+/// let veth = List::<Veth>::new().with(VETH_INFO_PEER, Peer::new(&name)?);
+/// let bytes = Request::create("e0").options(&veth).to_bytes()?; // ip link add e0 type veth peer name e1
+/// assert_eq!(bytes[bytes.len() - 8..], *b"\x07\0\x03\0e1\0\0");
+/// # Ok::<(), WriteError>(())
+/// ```
 #[derive(Clone, Debug, PartialEq, Eq, Hash, Default)]
 pub struct Peer {
     /// Holds the header (`struct ifinfomsg`).
@@ -144,6 +154,28 @@ pub struct Peer {
 }
 
 impl Peer {
+    /// Makes a peer with these attributes, and with zeros as header.
+    ///
+    /// # Errors
+    ///
+    /// Returns the first attribute that cannot be written.
+    pub fn new(attributes: &List<'_, Link>) -> Result<Peer, WriteError> {
+        Ok(Peer { header: [0; 16], attributes: attributes.to_bytes()? })
+    }
+
+    /// Sets the interface index (`ifi_index`) that the link gets. If it is 0, Linux chooses one.
+    #[must_use]
+    pub fn with_index(mut self, index: u32) -> Peer {
+        self.header[4..8].copy_from_slice(&index.to_ne_bytes());
+        self
+    }
+
+    /// Returns the interface index (`ifi_index`).
+    pub fn index(&self) -> u32 {
+        let [_, _, _, _, a, b, c, d, ..] = self.header;
+        u32::from_ne_bytes([a, b, c, d])
+    }
+
     /// Returns the peer in a payload.
     pub(crate) fn of(payload: &[u8]) -> Option<Peer> {
         let header = payload.get(..16)?.try_into().ok()?;

@@ -90,7 +90,7 @@ fn requests_are_those_of_iproute2() {
         .with(IFLA_MTU, 1300)
         .with(IFLA_ADDRESS, mac(1).0.to_vec())
         .with(IFLA_IFNAME, Text::from("e1"));
-    let peer = Peer { attributes: peer.to_bytes().expect("the list can be written"), ..Peer::default() };
+    let peer = Peer::new(&peer).expect("the list can be written");
     let rows = [
         ("ip link add br0 type bridge", Request::create("br0").options(&List::<Bridge>::new())),
         ("ip link add br0 type bridge", Request::create("br0").kind("bridge")),
@@ -426,4 +426,19 @@ fn a_request_is_printed_for_debugging() {
     let words = format!("{:?}", Request::bridge(3));
     let bridge = "Request { message_type: MessageType(RTM_SETLINK), flags: ACK, index: 3, address_family: AddressFamily(AF_BRIDGE) }";
     assert_eq!(words, bridge);
+}
+
+#[test]
+fn a_peer_has_a_header_and_attributes() -> Result<(), WriteError> {
+    // struct ifinfomsg: ifi_family, padding, ifi_type, ifi_index, ifi_flags, ifi_change; then an IFLA_MTU (4)
+    let attributes = List::<Link>::new().with(IFLA_MTU, 1300);
+    let peer = Peer::new(&attributes)?.with_index(5);
+    let header = [vec![0; 4], 5u32.to_ne_bytes().to_vec(), vec![0; 8]].concat();
+    let netkit = List::<Netkit>::new().with(IFLA_NETKIT_PEER_INFO, peer.clone());
+    assert_eq!(netkit.to_bytes()?, attribute(1, &[&header, &number(4, 1300)]));
+    assert_eq!((peer.index(), peer.read()), (5, Ok(attributes)));
+    let long = List::<Link>::new().with(IFLA_IFALIAS, Text(vec![b'a'; 65532]));
+    let error = Peer::new(&long).expect_err("the alias is too long");
+    assert_eq!((error.name.as_str(), error.code), ("IFLA_IFALIAS", Code::TooLong));
+    Ok(())
 }
