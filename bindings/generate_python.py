@@ -22,6 +22,7 @@ PLAIN = {
     "held": "bytes",
     "peer": "bytes",
 }
+FORMATS = {1: "B", 2: "H", 4: "I", 8: "Q"}  # of struct.pack(), for unsigned numbers of so many bytes
 TOP = '''\
 """Numbers of the C API, enums, flags and names of attributes. Written by bindings/generate.py."""
 from __future__ import annotations
@@ -29,7 +30,7 @@ from __future__ import annotations
 from enum import IntEnum
 from typing import TYPE_CHECKING
 
-from ._types import Flags, Key, Named, Row, Texts
+from ._types import Flags, Key, Named, Row, Struct, Texts
 
 if TYPE_CHECKING:
     from ipaddress import IPv4Address, IPv6Address
@@ -135,10 +136,18 @@ def row(it, model, indent):
         words += ", optional=True"
     if it.item:
         words += f", item={row(it.item, model, '')}"
+    if it.struct:
+        words += f", struct={struct(it.struct)}"
     if it.elements:
         below = "".join(f"{indent}        {row(that, model, indent)},\n" for that in it.elements)
         words = f"{words}, elements=(\n{below}{indent}    )"
     return f"{words})"
+
+
+def struct(it):
+    """Returns the fields of a struct, with their formats."""
+    fields = ", ".join(f'("{f.name}", {f.offset}, "{">" if f.is_big_endian else "="}{FORMATS[f.length]}")' for f in it.fields)
+    return f"Struct({it.size}, ({fields}{',' * (len(it.fields) == 1)}))"
 
 
 def set_text(of, model):

@@ -34,7 +34,7 @@ HEADERS = {
 NEW_LINE = "\n    "
 TOP = """\
 //! Attribute types as keys, and the enums and sets of flags of their values. Written by bindings/generate.py.
-use crate::macros::{{elements, families, flags, named, scope}};
+use crate::macros::{{elements, families, flags, named, packed, scope}};
 use crate::*;
 use std::net::{{Ipv4Addr, Ipv6Addr}};
 
@@ -66,6 +66,7 @@ def text(model):
     """Returns the text of kinds.rs."""
     seen = set()
     parts = [top(model), families(model), *(type_text(it, model) for it in model.types)]
+    parts += [struct_text(it, model) for it in model.structs]
     for of in model.sets:
         keys = [it.name for it in of.attributes]
         body = set_text(of)
@@ -143,6 +144,18 @@ def type_text(type_, model):
         lines.append(f"    {it.constant} = {it.number}{name};\n")
     macro = "flags" if type_.is_flags else "named"
     return f"{macro}! {{\n{comment(f'{what} {of}. {kept}')}    {type_.name}: u{type_.bits};\n{''.join(lines)}}}\n"
+
+
+def struct_text(struct, model):
+    """Returns a struct that is bytes in C."""
+    rows = (it for of in model.sets for attribute in of.attributes for it in (attribute, *attribute.elements))
+    of = ", ".join(dict.fromkeys(f"[`{it.name}`]" for it in rows if it.struct == struct))
+    lines = ""
+    for it in struct.fields:
+        order = "be" if it.is_big_endian else "ne"
+        lines += f"    {it.name}: u{8 * it.length} = {it.offset}, to_{order}_bytes, from_{order}_bytes;\n"
+    words = comment(f"Represents the bytes of {of} by their fields. Convert it by `into`, to write it.")
+    return f"packed! {{\n{words}    {struct.name}: {struct.size};\n{lines}}}\n"
 
 
 def scope_comment(of):

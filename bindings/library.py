@@ -35,6 +35,19 @@ class Row(ctypes.Structure):
     _fields_ = [("width", c_uint32), ("flags", c_uint16), ("form", c_uint8), ("is_list", c_uint8)]
 
 
+class Field(ctypes.Structure):
+    """struct nlroute_field."""
+
+    _fields_ = [
+        ("name", ctypes.c_char * 32),
+        ("number", c_uint64),
+        ("offset", c_uint64),
+        ("length", c_uint32),
+        ("form", c_uint32),
+        ("octets", c_uint8 * 16),
+    ]
+
+
 SIGNATURES = {
     "nlroute_version": (c_uint32,),
     "nlroute_read_row": (c_ssize_t, c_uint32, c_uint16, c_uint16, c_uint8, POINTER(Row)),
@@ -49,6 +62,7 @@ SIGNATURES = {
     "nlroute_kind_name": (c_ssize_t, c_uint32, POINTER(Value), c_char_p, c_size_t),
     "nlroute_number_name": (c_ssize_t, c_uint32, POINTER(Value), c_char_p, c_size_t),
     "nlroute_flag_name": (c_ssize_t, c_uint32, POINTER(Value), c_uint32, c_char_p, c_size_t),
+    "nlroute_field": (c_ssize_t, c_uint32, POINTER(Value), c_size_t, c_char_p, c_size_t, POINTER(Field)),
     "nlroute_text": (c_ssize_t, c_uint32, POINTER(Value), c_char_p, c_size_t, c_char_p, c_size_t),
 }
 
@@ -129,6 +143,13 @@ class Library:
     def flag_name(self, family, value, bit):
         """Returns the name of a bit of the flags of a value, or None."""
         return self._stored(self.c.nlroute_flag_name(family, byref(value), bit, self.room, TEXT_ROOM))
+
+    def fields(self, family, value, data):
+        """Returns the fields of the struct that a value with these bytes holds; none, if it holds no struct."""
+        found, field = [], Field()
+        while self.c.nlroute_field(family, byref(value), len(found), data, len(data), byref(field)) == 0:
+            found.append(Field.from_buffer_copy(field))
+        return found
 
     def _stored(self, length):
         if length == ABSENT:

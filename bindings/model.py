@@ -5,6 +5,7 @@
 - nlroute_read_row() has the form of an attribute type, and the width of its numbers;
 - names are those of nlroute_kind_name(), nlroute_number_name() and nlroute_flag_name(), and nlroute_kind_of(),
   nlroute_kind_of_in() and nlroute_number_of() have to find what has them;
+- nlroute_field() has the fields of structs that are bytes in C. A payload in which one byte is not zero tells their order.
 - nlroute_code_text() has the meanings of error codes.
 
 The names of variants in Rust are those of the rows in crates/, which are upstream's where that has them. Only the names of
@@ -44,12 +45,16 @@ TYPES = {
     "IFLA_STATS64": "LinkStats64",
     "IFLA_INET_CONF": "Ipv4Conf",
     "IFLA_INET6_CONF": "Ipv6Conf",
+    "IFLA_INET6_CACHEINFO": "Inet6CacheInfo",
+    "IFLA_MAP": "LinkMap",
+    "IFLA_VXLAN_PORT_RANGE": "PortRange",
 }
 # Names of constants. Otherwise a constant has its text in capitals, with _ for what no identifier may have.
 CONSTANTS = {"802.3ad": "IEEE8023AD", "802.1Q": "IEEE8021Q", "802.1ad": "IEEE8021AD", "3_SAMPLES": "TRIPLE_SAMPLES"}
 # Attribute types and elements that are tried; the numbers of the kernel's enums and bits that may have a name.
 KINDS, NUMBERS, BITS = range(128), range(1 << 16), range(32)
 MOST = (1 << 14) - 1
+SIZES = range(1, 129)  # lengths of structs that are tried
 NUMERIC = {"unsigned", "signed", "named", "flags", "masked"}
 WITH_FLAGS = {"flags", "masked", "vlan_info"}
 
@@ -74,6 +79,25 @@ class Type:
 
 
 @dataclass(frozen=True)
+class StructField:
+    """A field of a struct: a number."""
+
+    name: str  # low
+    offset: int
+    length: int
+    is_big_endian: bool
+
+
+@dataclass(frozen=True)
+class Struct:
+    """A struct that is bytes in C. Two attributes with the same fields share one."""
+
+    name: str  # PortRange
+    size: int
+    fields: tuple[StructField, ...]
+
+
+@dataclass(frozen=True)
 class Attribute:
     """An attribute type, or the type of an element of a list.
 
@@ -91,6 +115,7 @@ class Attribute:
     item: "Attribute | None" = None
     variant: str = ""  # Mode; empty for an item
     optional: bool = False  # a boolean that may have no payload, which is on without
+    struct: Struct | None = None  # for bytes that are a struct
     places: Type | None = None  # of an array whose places have names: these, in order, as of an enum
 
 
@@ -124,6 +149,7 @@ class Model:
     causes: dict[str, int]
     sets: tuple[Set, ...]
     types: tuple[Type, ...]
+    structs: tuple[Struct, ...]
 
 
 def camel(constant):
@@ -166,11 +192,12 @@ def ask(library):
     if library.version() != version:
         raise SystemExit(f"generate.py: the library has the version {library.version():#08x}, nlroute.h {version:#08x}")
     forms = {name.lower(): number for name, number in enum_of(header, "nlroute_form", "NLROUTE_FORM_").items()}
-    types = {}
+    types, structs = {}, {}
     families = enum_of(header, "nlroute_family").items()
     words = dict(re.findall(r"^    NLROUTE_(\w+) = \d+,? /\* (.*) \*/$", header, re.MULTILINE))
     rows = variants()
-    sets = tuple(Asker(library, family, forms, types, rows).set(name.lower(), words[name]) for name, family in families)
+    askers = {name: Asker(library, family, forms, types, structs, rows) for name, family in families}
+    sets = tuple(asker.set(name.lower(), words[name]) for name, asker in askers.items())
     return Model(
         version=version,
         forms=forms,
@@ -179,6 +206,7 @@ def ask(library):
         causes=enum_of(header, "nlroute_cause"),
         sets=sets,
         types=tuple(types.values()),
+        structs=tuple(structs.values()),
     )
 
 
@@ -193,10 +221,11 @@ def variants():
 
 
 class Asker:
-    """Asks for the attributes of one set. `types` has the enums and flags of all sets so far."""
+    """Asks for the attributes of one set. `types` has the enums and flags of all sets so far, `structs` the structs."""
 
-    def __init__(self, library, family, forms, types, names):
-        self.library, self.family, self.forms, self.types, self.variants = library, family, forms, types, names
+    def __init__(self, library, family, forms, types, structs, names):
+        self.library, self.family, self.forms = library, family, forms
+        self.types, self.structs, self.variants = types, structs, names
 
     def set(self, name, words):
         """Returns the set with all its attributes."""
@@ -237,6 +266,7 @@ class Asker:
             type=self.type(name, form, bits, names),
             variant=self.variants.get(name, ""),
             example=self.example(value, form),
+            struct=self.struct(name, value) if form == "bytes" else None,
             # (the number of a value without a payload is 1; of other booleans, the length is not used)
             optional=form == "bool" and self.library.refuses(self.family, value),
             **(self.elements(kind) if form == "list" else {}),
@@ -286,6 +316,28 @@ class Asker:
             return None
         key = (form in WITH_FLAGS, bits, names)
         return self.types.setdefault(key, Type(TYPES.get(name) or camel(name), *key))
+
+    def fields(self, value, data):
+        """Returns the fields of the struct that a value with these bytes holds."""
+        it = Value.from_buffer_copy(value)
+        it.length = len(data)
+        return self.library.fields(self.family, it, data)
+
+    def struct(self, name, value):
+        """Returns the struct that the bytes of an attribute are, or None. It has the least length that has fields."""
+        size = next((size for size in SIZES if self.fields(value, bytes(size))), None)
+        if size is None:
+            return None
+        found = []
+        for index, field in enumerate(self.fields(value, bytes(size))):
+            same(field.form, self.forms["unsigned"], f"the form of field {index} of {name}")
+            data = bytes(field.offset) + b"\1" + bytes(size - field.offset - 1)
+            number = self.fields(value, data)[index].number
+            is_big_endian = number != 1
+            same(number, 1 << 8 * (field.length - 1) if is_big_endian else 1, f"field {index} of {name}")
+            found.append(StructField(field.name.decode(), field.offset, field.length, is_big_endian))
+        key = (size, tuple(found))
+        return self.structs.setdefault(key, Struct(TYPES.get(name) or camel(name), *key))
 
     def example(self, value, form):
         """Returns how the number 100 is printed, if it is printed with a unit."""

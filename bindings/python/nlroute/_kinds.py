@@ -4,7 +4,7 @@ from __future__ import annotations
 from enum import IntEnum
 from typing import TYPE_CHECKING
 
-from ._types import Flags, Key, Named, Row, Texts
+from ._types import Flags, Key, Named, Row, Struct, Texts
 
 if TYPE_CHECKING:
     from ipaddress import IPv4Address, IPv6Address
@@ -1262,7 +1262,7 @@ SETS: dict[Family, tuple[Row, ...]] = {
         Row("IFLA_VXLAN_LEARNING", 7, 2),
         Row("IFLA_VXLAN_AGEING", 8, 3),
         Row("IFLA_VXLAN_LIMIT", 9, 3),
-        Row("IFLA_VXLAN_PORT_RANGE", 10, 17),
+        Row("IFLA_VXLAN_PORT_RANGE", 10, 17, struct=Struct(4, (("low", 0, ">H"), ("high", 2, ">H")))),
         Row("IFLA_VXLAN_PROXY", 11, 2),
         Row("IFLA_VXLAN_RSC", 12, 2),
         Row("IFLA_VXLAN_L2MISS", 13, 2),
@@ -1285,7 +1285,7 @@ SETS: dict[Family, tuple[Row, ...]] = {
         Row("IFLA_VXLAN_VNIFILTER", 30, 2),
         Row("IFLA_VXLAN_LOCALBYPASS", 31, 2),
         Row("IFLA_VXLAN_LABEL_POLICY", 32, 5, VxlanLabelPolicy),
-        Row("IFLA_VXLAN_RESERVED_BITS", 33, 17),
+        Row("IFLA_VXLAN_RESERVED_BITS", 33, 17, struct=Struct(8, (("vx_flags", 0, ">I"), ("vx_vni", 4, ">I")))),
         Row("IFLA_VXLAN_MC_ROUTE", 34, 2),
     ),
     Family.LINK: (
@@ -1301,7 +1301,7 @@ SETS: dict[Family, tuple[Row, ...]] = {
         Row("IFLA_MASTER", 10, 3),
         Row("IFLA_WIRELESS", 11, 17),
         Row("IFLA_TXQLEN", 13, 3),
-        Row("IFLA_MAP", 14, 17),
+        Row("IFLA_MAP", 14, 17, struct=Struct(32, (("mem_start", 0, "=Q"), ("mem_end", 8, "=Q"), ("base_addr", 16, "=Q"), ("irq", 24, "=H"), ("dma", 26, "=B"), ("port", 27, "=B")))),
         Row("IFLA_WEIGHT", 15, 3),
         Row("IFLA_OPERSTATE", 16, 5, OperState),
         Row("IFLA_LINKMODE", 17, 5, LinkMode),
@@ -1397,7 +1397,7 @@ SETS: dict[Family, tuple[Row, ...]] = {
         Row("IFLA_INET6_CONF", 2, 18, item=Row("", 0, 4)),
         Row("IFLA_INET6_STATS", 3, 18, item=Row("", 0, 3)),
         Row("IFLA_INET6_MCAST", 4, 17),
-        Row("IFLA_INET6_CACHEINFO", 5, 17),
+        Row("IFLA_INET6_CACHEINFO", 5, 17, struct=Struct(16, (("max_reasm_len", 0, "=I"), ("tstamp", 4, "=I"), ("reachable_time", 8, "=I"), ("retrans_time", 12, "=I")))),
         Row("IFLA_INET6_ICMP6STATS", 6, 18, item=Row("", 0, 3)),
         Row("IFLA_INET6_TOKEN", 7, 10),
         Row("IFLA_INET6_ADDR_GEN_MODE", 8, 5, AddrGenMode),
@@ -1430,7 +1430,7 @@ SETS: dict[Family, tuple[Row, ...]] = {
         Row("IFLA_GENEVE_TTL_INHERIT", 12, 2),
         Row("IFLA_GENEVE_DF", 13, 5, VxlanDf),
         Row("IFLA_GENEVE_INNER_PROTO_INHERIT", 14, 1),
-        Row("IFLA_GENEVE_PORT_RANGE", 15, 17),
+        Row("IFLA_GENEVE_PORT_RANGE", 15, 17, struct=Struct(4, (("low", 0, ">H"), ("high", 2, ">H")))),
     ),
     Family.VRF: (
         Row("IFLA_VRF_TABLE", 1, 3),

@@ -267,6 +267,13 @@ class Attribute(NamedTuple):
     value: Content
 
 
+class Struct(NamedTuple):
+    """The struct that the bytes of an attribute are."""
+
+    size: int  # in bytes
+    fields: tuple[tuple[str, int, str], ...]  # the name, the offset, and the format for struct.pack()
+
+
 class Row(NamedTuple):
     """What the library knows of an attribute type, or of an element of a list."""
 
@@ -277,3 +284,4 @@ class Row(NamedTuple):
     elements: tuple[Row, ...] = ()  # of a nested list
     item: Row | None = None  # of a list of addresses, numbers or mappings
     optional: bool = False  # a boolean that may have no payload: None without
+    struct: Struct | None = None  # of bytes that are one

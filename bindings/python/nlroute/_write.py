@@ -282,6 +282,21 @@ def octets_of(value: Any) -> bytes:
     return bytes(memoryview(value))
 
 
+def packed(row: Row, value: Mapping[Any, Any]) -> bytes:
+    """Returns a struct with these fields, and with zeros for the others. Raises KeyError if it has no field of a name."""
+    if not row.struct:
+        raise TypeError(f"expected bytes, not {value!r}")
+    out, left = bytearray(row.struct.size), dict(value)
+    for name, offset, layout in row.struct.fields:
+        try:
+            struct.pack_into(layout, out, offset, whole_number(left.pop(name, 0)))
+        except struct.error:
+            raise Unfit(Code.BAD_NUMBER) from None
+    if left:
+        raise KeyError(f"{row.name} has no {next(iter(left))}")
+    return bytes(out)
+
+
 def unknown(row: Row, value: Any) -> Fields:
     if isinstance(value, Unknown):
         return carried(octets_of(value.payload), whole_number(value.flags))
@@ -306,7 +321,7 @@ FIELDS: dict[int, Callable[[Row, Any], Fields]] = {
     Form.BERR_COUNTER: two("BerrCounter"),
     Form.BITTIMING: timing,
     Form.BITTIMING_CONST: limits,
-    Form.BYTES: lambda row, value: carried(octets_of(value)),
+    Form.BYTES: lambda row, value: carried(packed(row, value) if isinstance(value, Mapping) else octets_of(value)),
     Form.TEXT: lambda row, value: carried(Text(value)),
     Form.HELD: lambda row, value: carried(octets_of(value)),
     Form.PEER: lambda row, value: carried(octets_of(value)),

@@ -75,6 +75,31 @@ class Inner(unittest.TestCase):
         found = List(Family.VETH, {"VETH_INFO_PEER": value}).to_dict()
         self.assertEqual(List(Family.VETH, found).to_dict(), found)
 
+    def test_structs(self):
+        # struct ifla_vxlan_port_range and struct vxlanhdr are big-endian; struct rtnl_link_ifmap and ifla_cacheinfo are not
+        ports = {"low": 32768, "high": 61000}
+        rows = [
+            (Family.VXLAN, "IFLA_VXLAN_PORT_RANGE", ports, struct.pack(">HH", 32768, 61000)),
+            (Family.GENEVE, "IFLA_GENEVE_PORT_RANGE", ports, struct.pack(">HH", 32768, 61000)),
+            (Family.VXLAN, "IFLA_VXLAN_RESERVED_BITS", {"vx_flags": 1 << 24, "vx_vni": 255}, struct.pack(">II", 1 << 24, 255)),
+            (Family.LINK, "IFLA_MAP", {"base_addr": 1 << 40, "irq": 5, "port": 7}, struct.pack("=QQQHBB4x", 0, 0, 1 << 40, 5, 0, 7)),
+            (Family.INET6, "IFLA_INET6_CACHEINFO", {"tstamp": 9}, struct.pack("=4I", 0, 9, 0, 0)),
+            (Family.VXLAN, "IFLA_VXLAN_PORT_RANGE", {}, bytes(4)),
+        ]
+        for family, name, fields, expected in rows:
+            items = List(family, {name: fields})
+            self.assertEqual(bytes(items)[4:], expected)
+            self.assertEqual(List(family, {name: items.fields(name)}).to_dict(), List(family, {name: expected}).to_dict())
+            self.assertEqual(items.to_dict()[name] | fields, items.to_dict()[name])
+        bad = lambda fields: bytes(List(Family.VXLAN, {"IFLA_VXLAN_PORT_RANGE": fields}))
+        with self.assertRaises(WriteError) as caught:
+            bad({"low": 1 << 16})
+        self.assertEqual((caught.exception.name, caught.exception.code), ("IFLA_VXLAN_PORT_RANGE", Code.BAD_NUMBER))
+        self.assertRaisesRegex(KeyError, "IFLA_VXLAN_PORT_RANGE has no middle", bad, {"low": 1, "middle": 2})
+        self.assertRaises(TypeError, bad, {"low": "1"})
+        # bytes that are no struct
+        self.assertRaises(TypeError, bytes, List(Family.LINK, {"IFLA_ADDRESS": {"low": 1}}))
+
     def test_what_cannot_be_written(self):
         rows = [
             (info(BOND, "zz99"), "IFLA_INFO_DATA", Code.NO_SET),

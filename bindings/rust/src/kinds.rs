@@ -1,5 +1,5 @@
 //! Attribute types as keys, and the enums and sets of flags of their values. Written by bindings/generate.py.
-use crate::macros::{elements, families, flags, named, scope};
+use crate::macros::{elements, families, flags, named, packed, scope};
 use crate::*;
 use std::net::{Ipv4Addr, Ipv6Addr};
 
@@ -549,6 +549,41 @@ named! {
     NetkitScrub: u32;
     NONE = 0, "none";
     DEFAULT = 1, "default";
+}
+
+packed! {
+    /// Represents the bytes of [`IFLA_VXLAN_PORT_RANGE`], [`IFLA_GENEVE_PORT_RANGE`] by their fields. Convert it by
+    /// `into`, to write it.
+    PortRange: 4;
+    low: u16 = 0, to_be_bytes, from_be_bytes;
+    high: u16 = 2, to_be_bytes, from_be_bytes;
+}
+
+packed! {
+    /// Represents the bytes of [`IFLA_VXLAN_RESERVED_BITS`] by their fields. Convert it by `into`, to write it.
+    VxlanReservedBits: 8;
+    vx_flags: u32 = 0, to_be_bytes, from_be_bytes;
+    vx_vni: u32 = 4, to_be_bytes, from_be_bytes;
+}
+
+packed! {
+    /// Represents the bytes of [`IFLA_MAP`] by their fields. Convert it by `into`, to write it.
+    LinkMap: 32;
+    mem_start: u64 = 0, to_ne_bytes, from_ne_bytes;
+    mem_end: u64 = 8, to_ne_bytes, from_ne_bytes;
+    base_addr: u64 = 16, to_ne_bytes, from_ne_bytes;
+    irq: u16 = 24, to_ne_bytes, from_ne_bytes;
+    dma: u8 = 26, to_ne_bytes, from_ne_bytes;
+    port: u8 = 27, to_ne_bytes, from_ne_bytes;
+}
+
+packed! {
+    /// Represents the bytes of [`IFLA_INET6_CACHEINFO`] by their fields. Convert it by `into`, to write it.
+    Inet6CacheInfo: 16;
+    max_reasm_len: u32 = 0, to_ne_bytes, from_ne_bytes;
+    tstamp: u32 = 4, to_ne_bytes, from_ne_bytes;
+    reachable_time: u32 = 8, to_ne_bytes, from_ne_bytes;
+    retrans_time: u32 = 12, to_ne_bytes, from_ne_bytes;
 }
 
 scope! {

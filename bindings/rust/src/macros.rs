@@ -306,6 +306,42 @@ macro_rules! operator {
     };
 }
 
+/// Defines a struct of the kernel whose attributes have bytes as values: its size, and the offset and byte order of each field.
+macro_rules! packed {
+    (
+        $(#[$doc:meta])* $type:ident: $size:literal;
+        $($field:ident: $number:ident = $offset:literal, $to_bytes:ident, $from_bytes:ident;)*
+    ) => {
+        $(#[$doc])*
+        #[derive(Clone, Copy, Debug, PartialEq, Eq, Hash, Default)]
+        pub struct $type {
+            $(
+                #[doc = concat!("Holds `", stringify!($field), "`.")]
+                pub $field: $number,
+            )*
+        }
+
+        impl $type {
+            /// Returns the struct that a value has, or `None` if the value has fewer bytes. Bytes after the struct are skipped.
+            pub fn read(value: &[u8]) -> Option<$type> {
+                let value = value.get(..$size)?;
+                Some($type {
+                    $($field: $number::$from_bytes(value[$offset..][..$number::BITS as usize / 8].try_into().ok()?),)*
+                })
+            }
+        }
+
+        impl From<$type> for Vec<u8> {
+            /// Returns the value of an attribute. Padding is zero.
+            fn from(fields: $type) -> Vec<u8> {
+                let mut value = vec![0; $size];
+                $(value[$offset..][..$number::BITS as usize / 8].copy_from_slice(&fields.$field.$to_bytes());)*
+                value
+            }
+        }
+    };
+}
+
 /// Lets enums and sets of flags be compared with their numbers.
 macro_rules! compared {
     ($($type:ident: $number:ty;)*) => {$(
@@ -387,4 +423,4 @@ macro_rules! attributes {
     };
 }
 
-pub(crate) use {attributes, bits, compared, elements, families, flags, named, names, operator, scope};
+pub(crate) use {attributes, bits, compared, elements, families, flags, named, names, operator, packed, scope};

@@ -158,3 +158,29 @@ fn lists_can_be_used_by_several_threads() {
     is_shared::<Key<Bond, u32>>();
     assert!(List::<Bond>::default().is_empty());
 }
+
+#[test]
+fn structs_are_written_by_their_fields() -> Result<(), Error> {
+    // struct ifla_vxlan_port_range and struct vxlanhdr are big-endian; struct rtnl_link_ifmap and ifla_cacheinfo are not
+    let ports = PortRange { low: 32768, high: 61000 };
+    let vxlan = List::<Vxlan>::new().with(IFLA_VXLAN_PORT_RANGE, ports.into());
+    assert_eq!(vxlan.to_bytes()?, [8, 0, 10, 0, 0x80, 0, 0xee, 0x48]);
+    assert_eq!(vxlan.to_string(), "IFLA_VXLAN_PORT_RANGE low 32768 high 61000\n");
+    assert_eq!(vxlan.get(IFLA_VXLAN_PORT_RANGE).and_then(|value| PortRange::read(&value)), Some(ports));
+    let geneve = List::<Geneve>::new().with(IFLA_GENEVE_PORT_RANGE, ports.into());
+    assert_eq!(geneve.to_bytes()?[4..], [0x80, 0, 0xee, 0x48]);
+    let bits = VxlanReservedBits { vx_flags: 1 << 24, vx_vni: 255 };
+    assert_eq!(Vec::from(bits), [1, 0, 0, 0, 0, 0, 0, 255]);
+    let map = LinkMap { base_addr: 1 << 40, irq: 5, port: 7, ..LinkMap::default() };
+    let expected =
+        [vec![0; 16], (1u64 << 40).to_ne_bytes().to_vec(), 5u16.to_ne_bytes().to_vec(), vec![0, 7, 0, 0, 0, 0]];
+    let link = List::<Link>::new().with(IFLA_MAP, map.into());
+    assert_eq!(link.to_bytes()?[4..], expected.concat());
+    let times = Inet6CacheInfo { tstamp: 9, ..Inet6CacheInfo::default() };
+    assert_eq!(Vec::from(times), [[0; 4], 9u32.to_ne_bytes(), [0; 4], [0; 4]].concat());
+    assert_eq!(
+        (PortRange::read(&[1, 2, 3]), PortRange::read(&[0, 1, 0, 2, 9])),
+        (None, Some(PortRange { low: 1, high: 2 }))
+    );
+    Ok(())
+}
