@@ -23,7 +23,8 @@ class MessageType(Named):
 class MessageFlags(Flags):
     """nlmsg_flags, without NLM_F_ (`linux/netlink.h`).
 
-    The meaning of bits 8 to 11 depends on the type of the message. So they have several names, and none in texts.
+    The meaning of bits 8 to 11 depends on the type of the message. So they have several names, and none in texts but those
+    of text_in().
 
     >>> from nlroute import MessageFlags
     >>> print(MessageFlags.REQUEST | MessageFlags.DUMP)
@@ -57,8 +58,36 @@ class MessageFlags(Flags):
     def _named(cls) -> int:
         return 0x3F
 
+    def text_in(self, kind: int) -> str:
+        """Returns the names of the flags in a message of a type, as `nlshow` prints them.
+
+        >>> from nlroute import MessageFlags, MessageType
+        >>> MessageFlags(0x605).text_in(MessageType.RTM_NEWLINK)
+        'REQUEST|ACK|EXCL|CREATE'
+        """
+        names = flag_names(kind)
+        rest = int(self) & ~sum(names)
+        return "|".join([name for bit, name in names.items() if self & bit] + ([hex(rest)] if rest else [])) or "0"
+
     def __repr__(self) -> str:
         return f"<{type(self).__name__} {self}: {int(self)}>"
+
+
+COMMON_FLAGS = {1 << bit: MessageFlags(1 << bit).name or "" for bit in range(6)}
+NEW_FLAGS = {0x100: "REPLACE", 0x200: "EXCL", 0x400: "CREATE", 0x800: "APPEND"}
+GET_FLAGS = {0x100: "ROOT", 0x200: "MATCH", 0x400: "ATOMIC"}
+DELETE_FLAGS = {0x100: "NONREC", 0x200: "BULK"}
+REPLY_FLAGS = {0x100: "CAPPED", 0x200: "ACK_TLVS"}
+# Those of one message type besides the common ones
+OWN_FLAGS = {
+    2: REPLY_FLAGS, 3: REPLY_FLAGS, 16: NEW_FLAGS, 17: DELETE_FLAGS, 18: GET_FLAGS, 19: NEW_FLAGS, 108: NEW_FLAGS,
+    109: DELETE_FLAGS, 110: GET_FLAGS,
+}  # fmt: skip
+
+
+def flag_names(kind: int) -> dict[int, str]:
+    """Returns the names of flags in messages of a type."""
+    return COMMON_FLAGS | OWN_FLAGS.get(kind, {})
 
 
 class LinkFlags(Flags):

@@ -200,7 +200,8 @@ class Request:
         return self
 
     def __repr__(self) -> str:
-        words = [str(self.type), f"flags={self.flags}", f"index={self.index}"]
+        flags = self.flags.text_in(self.type) if isinstance(self.flags, MessageFlags) else self.flags
+        words = [str(self.type), f"flags={flags}", f"index={self.index}"]
         for name in "address_family", "sequence", "port", "link_flags", "link_change":
             words += [f"{name}={getattr(self, name)}"] if getattr(self, name) else []
         words += [] if self._kind is None else [f"kind={self._kind!r}"]

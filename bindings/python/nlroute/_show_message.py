@@ -7,6 +7,7 @@ from typing import NamedTuple
 
 from . import _library
 from ._errors import MessageFault
+from ._headers import flag_names
 from ._kinds import Cause, Family
 from ._records import HEADER, IFINFOMSG
 from ._show import flags_text, header_words, pieces, quoted, set_lines
@@ -19,20 +20,10 @@ CAPPED, ACK_TLVS = 0x100, 0x200  # NLM_F_ of a reply
 NLMSGHDR = struct.Struct("<IHHII")
 # An NLMSG_ERROR has at least a struct nlmsgerr: an int, and the struct nlmsghdr of the request
 NLMSGERR = 4 + NLMSGHDR.size
-# Names in `linux/netlink.h` and `rtnetlink.h`, those of flags without NLM_F_
+# Names in `linux/netlink.h` and `rtnetlink.h`
 MESSAGE_TYPES = {
     1: "NLMSG_NOOP", 2: "NLMSG_ERROR", 3: "NLMSG_DONE", 4: "NLMSG_OVERRUN", 16: "RTM_NEWLINK", 17: "RTM_DELLINK",
     18: "RTM_GETLINK", 19: "RTM_SETLINK", 108: "RTM_NEWLINKPROP", 109: "RTM_DELLINKPROP", 110: "RTM_GETLINKPROP",
-}  # fmt: skip
-COMMON_FLAGS = {0x1: "REQUEST", 0x2: "MULTI", 0x4: "ACK", 0x8: "ECHO", 0x10: "DUMP_INTR", 0x20: "DUMP_FILTERED"}
-NEW_FLAGS = {0x100: "REPLACE", 0x200: "EXCL", 0x400: "CREATE", 0x800: "APPEND"}
-GET_FLAGS = {0x100: "ROOT", 0x200: "MATCH", 0x400: "ATOMIC"}
-DELETE_FLAGS = {0x100: "NONREC", 0x200: "BULK"}
-ERROR_FLAGS = {CAPPED: "CAPPED", ACK_TLVS: "ACK_TLVS"}
-# Those of one message type besides the common ones
-OWN_FLAGS = {
-    2: ERROR_FLAGS, 3: ERROR_FLAGS, 16: NEW_FLAGS, 17: DELETE_FLAGS, 18: GET_FLAGS, 19: NEW_FLAGS, 108: NEW_FLAGS,
-    109: DELETE_FLAGS, 110: GET_FLAGS,
 }  # fmt: skip
 # Names from 1 on (`asm-generic/errno-base.h`, `errno.h`); 41 and 58 have none
 ERRNOS = (
@@ -99,7 +90,7 @@ def rest_line(data: bytes, at: int) -> str:
 
 def first_line(header: Header) -> str:
     """Returns the line of the header of a message."""
-    names = COMMON_FLAGS | OWN_FLAGS.get(header.type, {})
+    names = flag_names(header.type)
     words = MESSAGE_TYPES.get(header.type, f"type {header.type}")
     flags = flags_text(names, 2, header.flags)
     return f"{words} len {header.length} flags {flags} seq {header.sequence} pid {header.port}"

@@ -146,6 +146,10 @@ class Names(unittest.TestCase):
         # the names of bits 8 to 11 depend on the type of the message
         flags = MessageFlags.REQUEST | MessageFlags.ACK | MessageFlags.CREATE | MessageFlags.EXCL
         self.assertEqual((flags, str(flags), repr(flags)), (0x605, "REQUEST|ACK|0x600", "<MessageFlags REQUEST|ACK|0x600: 1541>"))
+        texts = [flags.text_in(kind) for kind in (16, 17, 18, 2, 20)]
+        names = "EXCL|CREATE", "BULK|0x400", "MATCH|ATOMIC", "ACK_TLVS|0x400", "0x600"
+        self.assertEqual(texts, [f"REQUEST|ACK|{name}" for name in names])
+        self.assertEqual(MessageFlags(0).text_in(MessageType.RTM_NEWLINK), "0")
         self.assertIn(MessageFlags.DUMP, MessageFlags(0x301))
         self.assertEqual(~MessageFlags.ACK & MessageFlags(7), MessageFlags.REQUEST | MessageFlags.MULTI)
 

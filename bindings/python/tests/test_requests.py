@@ -589,7 +589,7 @@ class OneOfEach(unittest.TestCase):
     def test_repr(self):
         rows = [
             (change().master(7).up(), "RTM_NEWLINK flags=ACK index=3 link_flags=UP link_change=UP <LINK IFLA_MASTER=7>"),
-            (Request.create("d0").kind("dummy"), "RTM_NEWLINK flags=ACK|0x600 index=0 kind='dummy' <LINK IFLA_IFNAME='d0'>"),
+            (Request.create("d0").kind("dummy"), "RTM_NEWLINK flags=ACK|EXCL|CREATE index=0 kind='dummy' <LINK IFLA_IFNAME='d0'>"),
             (Request.bridge(3), "RTM_SETLINK flags=ACK index=3 address_family=AF_BRIDGE"),
             (change().options(BOND), f"RTM_NEWLINK flags=ACK index=3 {BOND!r}"),
             (change().options(Family.VRF), "RTM_NEWLINK flags=ACK index=3 <VRF>"),

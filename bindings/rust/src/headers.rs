@@ -1,6 +1,7 @@
 //! Numbers and flags of message headers, by the kernel's names.
 
 use crate::macros::{bits, compared, names};
+use crate::types::flags_text;
 
 names! {
     /// Represents the type of a message, `nlmsg_type` (`include/uapi/linux/netlink.h`, `rtnetlink.h`). Numbers without a name are
@@ -22,7 +23,8 @@ names! {
 bits! {
     /// Represents `nlmsg_flags`, without `NLM_F_` (`include/uapi/linux/netlink.h`). Bits without a name are kept.
     ///
-    /// The meaning of bits 8 to 11 depends on the type of the message. So they have several names, and none in texts.
+    /// The meaning of bits 8 to 11 depends on the type of the message. So they have several names, and none in texts but
+    /// those of [`text_in`](MessageFlags::text_in).
     MessageFlags: u16;
     REQUEST = 0;
     MULTI = 1;
@@ -33,6 +35,28 @@ bits! {
 }
 
 impl MessageFlags {
+    /// Returns the names of the flags in a message of a type, as `nlshow` prints them.
+    ///
+    /// ```
+    /// use nlroute::{MessageFlags, MessageType};
+    ///
+    /// assert_eq!(MessageFlags(0x605).text_in(MessageType::RTM_NEWLINK), "REQUEST|ACK|EXCL|CREATE");
+    /// ```
+    pub fn text_in(self, message_type: MessageType) -> String {
+        let own: &[&str] = match message_type {
+            MessageType::RTM_NEWLINK | MessageType::RTM_SETLINK | MessageType::RTM_NEWLINKPROP => {
+                &["REPLACE", "EXCL", "CREATE", "APPEND"]
+            }
+            MessageType::RTM_DELLINK | MessageType::RTM_DELLINKPROP => &["NONREC", "BULK"],
+            MessageType::RTM_GETLINK | MessageType::RTM_GETLINKPROP => &["ROOT", "MATCH", "ATOMIC"],
+            MessageType::NLMSG_ERROR | MessageType::NLMSG_DONE => &["CAPPED", "ACK_TLVS"],
+            _ => &[],
+        };
+        let common = ["REQUEST", "MULTI", "ACK", "ECHO", "DUMP_INTR", "DUMP_FILTERED"];
+        let names: Vec<_> = (0..).zip(common).chain((8..).zip(own.iter().copied())).collect();
+        flags_text(self.0.into(), &names, "0")
+    }
+
     /// Is bit 8 in a request that gets something.
     pub const ROOT: MessageFlags = MessageFlags(0x100);
     /// Is bit 9 in a request that gets something.

@@ -53,7 +53,8 @@ impl fmt::Debug for Request {
     fn fmt(&self, f: &mut fmt::Formatter<'_>) -> fmt::Result {
         let RawHead { kind, flags, index, .. } = self.head;
         let mut text = f.debug_struct("Request");
-        text.field("message_type", &MessageType(kind)).field("flags", &MessageFlags(flags)).field("index", &index);
+        let flags = MessageFlags(flags).text_in(MessageType(kind));
+        text.field("message_type", &MessageType(kind)).field("flags", &format_args!("{flags}")).field("index", &index);
         if self.head.address_family != 0 {
             text.field("address_family", &AddressFamily(self.head.address_family));
         }

@@ -123,6 +123,10 @@ fn flags_of_headers_are_those_of_linux() {
         [0x100, 0x200, 0x100, 0x200]
     );
     assert_eq!(format!("{:?}", Flags::REQUEST | Flags::DUMP), "REQUEST|0x300");
+    let texts = [16, 17, 18, 2, 20].map(|kind| Flags(0x605).text_in(MessageType(kind)));
+    let names = ["EXCL|CREATE", "BULK|0x400", "MATCH|ATOMIC", "ACK_TLVS|0x400", "0x600"];
+    assert_eq!(texts, names.map(|name| format!("REQUEST|ACK|{name}")));
+    assert_eq!(Flags::default().text_in(MessageType::RTM_NEWLINK), "0");
     let names =
         "UP|BROADCAST|DEBUG|LOOPBACK|POINTOPOINT|NOTRAILERS|RUNNING|NOARP|PROMISC|ALLMULTI|MASTER|SLAVE|MULTICAST|\
                  PORTSEL|AUTOMEDIA|DYNAMIC|LOWER_UP|DORMANT|ECHO|0x80000";

@@ -420,8 +420,9 @@ fn a_request_is_printed_for_debugging() {
                 bond: [IFLA_BOND_MODE: Named(4), IFLA_BOND_MIIMON: Unsigned(100)] }";
     assert_eq!(format!("{request:?}"), format!("{head}{rest}"));
     let words = format!("{:?}", Request::create("d0").kind("dummy").sequence(5));
-    assert!(words
-        .starts_with("Request { message_type: MessageType(RTM_NEWLINK), flags: ACK|0x600, index: 0, sequence: 5, "));
+    assert!(words.starts_with(
+        "Request { message_type: MessageType(RTM_NEWLINK), flags: ACK|EXCL|CREATE, index: 0, sequence: 5, "
+    ));
     assert!(words.ends_with("kind: \"dummy\" }"), "{words}");
     let words = format!("{:?}", Request::bridge(3));
     let bridge = "Request { message_type: MessageType(RTM_SETLINK), flags: ACK, index: 3, address_family: AddressFamily(AF_BRIDGE) }";
