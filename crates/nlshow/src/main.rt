@@ -89,9 +89,12 @@ fn end_without_buffer<W: Write + Drop>(writer: &mut BufWriter<Watched<W>>, outpu
 ///
 /// `AllocError` if an allocation fails.
 fn request_of(alloc: Global, words: Option<Vec<String>>) -> Result<Request, AllocError>
-    ensures { IfOk result (λ request. MatchOption words
+    ensures request { IfOk result (λ request. MatchOption words
         (IsWrong (codes "error: an argument is not UTF-8; read such a file by nlshow < FILE") request)
-        (λ words. IsRequest request × Asks (map string_bytes words.items) request)) }
+        (λ _. IsRequest request)) }
+    ensures asked { IfOk result (λ request. MatchOption words
+        (IsWrong (codes "error: an argument is not UTF-8; read such a file by nlshow < FILE") request)
+        (λ words. Asks (map string_bytes words.items) request)) }
 {
     match words {
         Some(words) => parse(alloc, &words),
