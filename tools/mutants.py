@@ -23,15 +23,15 @@ What was told of a mutant is one of these words. These refuse it:
     false      the facts known there allow values at which the goal is false
     open       the search tried all that it tries, and did not prove the goal
     by hand    the goal's proof by hand fails, and without that proof the search fails too
+    limit      the search, which proves the goal of the code as it is, gave up at one of its limits. This shows least
 
-These do not:
+This does not:
 
-    limit      the search gave up at one of its limits
     lost name  a proof by hand names what the edit takes away, or rests on one that does, and without that proof the facts
                allow no such values: an edit that means the same as the code would do that too
 
 The file equivalent.edits beside this one has edits that mean the same as the code, of files 'crates/NAME/FILE'. Each is tried
-with the mutants of its crate, and must not be refused.
+with the mutants of its crate, and must not be refused, by a limit neither.
 
 The last line is 'N passed, M failed', and the status 0 only if all mutants are refused, and no equivalent edit is.
 """
@@ -45,7 +45,7 @@ from concurrent.futures import ThreadPoolExecutor
 
 sys.dont_write_bytecode = True
 sys.path.insert(0, os.path.dirname(os.path.realpath(__file__)))
-from checks import BY_HAND, FALSE, LOST, OPEN, check  # noqa: E402
+from checks import BY_HAND, FALSE, LIMIT, LOST, OPEN, check  # noqa: E402
 from crates import crates_of, kit_folder, lanes  # noqa: E402
 from cut import cut_crate, without_answers  # noqa: E402
 from edits import EditError, edited_texts, entries_of, functions_in, values_of  # noqa: E402
@@ -53,7 +53,7 @@ from edits import EditError, edited_texts, entries_of, functions_in, values_of  
 # How many mutants one check has at most: so that no check goes on long after all others.
 MOST = 48
 # What a goal that is not proved has to show to refuse a mutant.
-REFUSE = (FALSE, OPEN, BY_HAND)
+REFUSE = (FALSE, OPEN, BY_HAND, LIMIT)
 
 
 class Mutant:
