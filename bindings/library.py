@@ -36,7 +36,7 @@ class Row(ctypes.Structure):
 
 
 class Field(ctypes.Structure):
-    """struct nlroute_field."""
+    """struct nlroute_read_field."""
 
     _fields_ = [
         ("name", ctypes.c_char * 32),
@@ -62,7 +62,7 @@ SIGNATURES = {
     "nlroute_kind_name": (c_ssize_t, c_uint32, POINTER(Value), c_char_p, c_size_t),
     "nlroute_number_name": (c_ssize_t, c_uint32, POINTER(Value), c_char_p, c_size_t),
     "nlroute_flag_name": (c_ssize_t, c_uint32, POINTER(Value), c_uint32, c_char_p, c_size_t),
-    "nlroute_field": (c_ssize_t, c_uint32, POINTER(Value), c_size_t, c_char_p, c_size_t, POINTER(Field)),
+    "nlroute_read_field": (c_ssize_t, c_uint32, POINTER(Value), c_size_t, c_char_p, c_size_t, POINTER(Field)),
     "nlroute_text": (c_ssize_t, c_uint32, POINTER(Value), c_char_p, c_size_t, c_char_p, c_size_t),
 }
 
@@ -147,7 +147,7 @@ class Library:
     def fields(self, family, value, data):
         """Returns the fields of the struct that a value with these bytes holds; none, if it holds no struct."""
         found, field = [], Field()
-        while self.c.nlroute_field(family, byref(value), len(found), data, len(data), byref(field)) == 0:
+        while self.c.nlroute_read_field(family, byref(value), len(found), data, len(data), byref(field)) == 0:
             found.append(Field.from_buffer_copy(field))
         return found
 

@@ -5,7 +5,7 @@
 - nlroute_read_row() has the form of an attribute type, and the width of its numbers;
 - names are those of nlroute_kind_name(), nlroute_number_name() and nlroute_flag_name(), and nlroute_kind_of(),
   nlroute_kind_of_in() and nlroute_number_of() have to find what has them;
-- nlroute_field() has the fields of structs that are bytes in C. A payload in which one byte is not zero tells their order.
+- nlroute_read_field() has the fields of structs that are bytes in C. A payload in which one byte is not zero tells their order.
 - nlroute_code_text() has the meanings of error codes.
 
 The names of variants in Rust are those of the rows in crates/, which are upstream's where that has them. Only the names of

@@ -13,7 +13,7 @@ TOP = os.path.dirname(os.path.dirname(os.path.dirname(os.path.dirname(os.path.re
 GROUP = re.compile(r"/\* (?:Attributes of NLROUTE_|Elements of )([^*]*)\. \*/\nenum \{\n([^}]*)\n\};")
 PLACES = re.compile(r"/\* Places of the array (\w+)\. \*/\nenum \{\n([^}]*)\n\};")
 PLACE = re.compile(r"NLROUTE_(?:IPV[46]_CONF_)?(\w+) = (\d+)")
-TYPE = re.compile(r"NLROUTE_(\w+) = (\d+),? /\* (.*?)(?:, (?:read|write)-only)? \*/")
+TYPE = re.compile(r"NLROUTE_(\w+) = (\d+),? /\* (.*?)(?:, .*)? \*/")
 LIST = re.compile(r"^> ([a-z_]+) ((?:[0-9a-f]| )*)$")
 # Bits and numbers of the kernel's headers: if_bonding.h, if_vlan.h, can/netlink.h, if_bridge.h, bond_3ad.h.
 KERNEL = [
