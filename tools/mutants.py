@@ -227,7 +227,7 @@ class Trial:
                 self.fails(mutant.name, f"BAD EDIT: without its proof by hand, {answer.why}")
             elif false:
                 self.judge(mutant, false[0], FALSE)
-            elif fails or not shown and not {*mutant.seats} <= answer.accepted:
+            elif fails or not {*mutant.seats} <= answer.accepted:
                 self.judge(mutant, told[0])
             else:
                 self.judge(mutant, None)
