@@ -108,7 +108,7 @@ form_of (borrowed.Addresses list size) = Some (forms.Addresses size)
 form_of (borrowed.List list flagged) = Some (forms.List flagged)
 form_of (borrowed.Other p) = None
 
--- the attribute decodes to a value
+-- the attribute decodes to a value: it is not so that it has none. Which value that is, a ghost field does not hold
 abbrev pub HasValue : Table → ℕ → List ℕ → Type 0
 HasValue table f p = ¬ (¬ ((v : AttrValue) × Gives table f p (Ok v)))
 
@@ -118,7 +118,7 @@ pub record HasContent (table : Table) (b : NlaBuffer) (content : Borrowed) : Typ
   pub borrows : Borrows (class_at table (kind_of (kind_field_of b))) (payload_of b) content
   pub form : form_of content ≡ form_at table (kind_of (kind_field_of b))
 
--- the list decodes to values
+-- the list decodes to values: it is not so that it has none
 abbrev pub HasValues : Table → List ℕ → Type 0
 HasValues table s = ¬ (¬ (Decodes table s))
 

@@ -126,6 +126,10 @@ fn write_line<P: Place, W: Write>(
 
 /// Writes the document of a sheet as a line, and clears the sheet. The line reads back as the document, if that does not
 /// nest deeper than 128 arrays and objects. Never fails with `Memory`.
+///
+/// # Errors
+///
+/// `Writer` if the writer fails. Then the sheet is cleared too.
 pub fn print_document<W: Write>(
     alloc: Global,
     sheet: &mut Sheet,

@@ -19,6 +19,10 @@ pub(crate) fn write_name(sheet: &mut Sheet, name: Option<&str>) -> Result<(), Al
 }
 
 /// Writes a number with its name.
+///
+/// # Errors
+///
+/// `AllocError` if an allocation fails.
 pub fn write_named(sheet: &mut Sheet, number: u64, name: Option<&str>) -> Result<(), AllocError>
     ensures { OnOk result (sheet.new ≡ sheet.old ++ json_tokens (named_json number (option_map (λ text. text.now) name.entry))) }
 {
@@ -31,6 +35,10 @@ pub fn write_named(sheet: &mut Sheet, number: u64, name: Option<&str>) -> Result
 }
 
 /// Writes a member that is a number.
+///
+/// # Errors
+///
+/// `AllocError` if an allocation fails.
 pub fn write_number_field(sheet: &mut Sheet, name: &str, number: u64) -> Result<(), AllocError>
     ensures { OnOk result (sheet.new ≡ sheet.old ++ fields_tokens ((name.now, number_json number) ∷ [])) }
 {

@@ -88,6 +88,10 @@ impl Sheet {
     }
 
     /// Begins an object.
+    ///
+    /// # Errors
+    ///
+    /// `AllocError` if an allocation fails.
     pub fn begin_object(&mut self) -> Result<(), AllocError>
         ensures { OnOk result (self.new ≡ self.old ++ begin_object ∷ []) }
     {
@@ -95,6 +99,10 @@ impl Sheet {
     }
 
     /// Ends an object.
+    ///
+    /// # Errors
+    ///
+    /// `AllocError` if an allocation fails.
     pub fn end_object(&mut self) -> Result<(), AllocError>
         ensures { OnOk result (self.new ≡ self.old ++ end_object ∷ []) }
     {
@@ -116,6 +124,10 @@ impl Sheet {
     }
 
     /// Writes the key of a member.
+    ///
+    /// # Errors
+    ///
+    /// `AllocError` if an allocation fails.
     pub fn key(&mut self, name: &str) -> Result<(), AllocError>
         ensures { OnOk result (self.new ≡ self.old ++ key name.now ∷ []) }
     {
@@ -123,6 +135,10 @@ impl Sheet {
     }
 
     /// Writes a number. Most have one digit.
+    ///
+    /// # Errors
+    ///
+    /// `AllocError` if an allocation fails.
     #[inline(always)]
     pub fn number(&mut self, n: u64) -> Result<(), AllocError>
         ensures { OnOk result (self.new ≡ self.old ++ json_tokens (number_json n)) }
@@ -152,6 +168,10 @@ impl Sheet {
     }
 
     /// Writes a boolean.
+    ///
+    /// # Errors
+    ///
+    /// `AllocError` if an allocation fails.
     pub fn boolean(&mut self, b: bool) -> Result<(), AllocError>
         ensures { OnOk result (self.new ≡ self.old ++ boolean b ∷ []) }
     {
@@ -159,6 +179,10 @@ impl Sheet {
     }
 
     /// Writes a text.
+    ///
+    /// # Errors
+    ///
+    /// `AllocError` if an allocation fails.
     pub fn string(&mut self, text: &str) -> Result<(), AllocError>
         ensures { OnOk result (self.new ≡ self.old ++ string text.now ∷ []) }
     {
@@ -166,6 +190,10 @@ impl Sheet {
     }
 
     /// Writes null.
+    ///
+    /// # Errors
+    ///
+    /// `AllocError` if an allocation fails.
     pub fn null(&mut self) -> Result<(), AllocError>
         ensures { OnOk result (self.new ≡ self.old ++ null ∷ []) }
     {

@@ -25,6 +25,10 @@ use std::str;
 
 impl Sheet {
     /// Writes a text; an object with its bytes in hexadecimal, if it is not UTF-8.
+    ///
+    /// # Errors
+    ///
+    /// `AllocError` if an allocation fails.
     pub fn text(&mut self, bytes: &[u8]) -> Result<(), AllocError>
         ensures { OnOk result (self.new ≡ self.old ++ json_tokens (text_json bytes.now)) }
     {

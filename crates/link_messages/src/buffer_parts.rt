@@ -38,6 +38,7 @@ pub struct Payload<'a> {
 /// An attribute list, and the `Family` that parses it.
 #[derive(Clone, Copy, Debug, PartialEq, Eq)]
 pub struct Part<'a> {
+    /// The set that reads the list.
     pub family: Family,
     /// The list.
     pub payload: Payload<'a>,

@@ -223,8 +223,5 @@ fn put_inside<'a>(
 fn own_misfit(misfit: Misfit) -> MisfitAt
     ensures { result ≡ at_fault (0, misfit) }
 {
-    MisfitAt {
-        index: 0,
-        misfit: misfit,
-    }
+    MisfitAt { index: 0, misfit }
 }

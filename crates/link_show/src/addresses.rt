@@ -48,6 +48,10 @@ fn write_address_of<'a, W: Sink>(
 }
 
 /// Writes an IP address.
+///
+/// # Errors
+///
+/// That of the writer.
 #[tactic(auto, unfolding(crate::specs::List::ip_text))]
 pub fn write_ip<W: Sink>(writer: &mut W, address: &[u8]) -> Result<(), W::Error>
     ensures { OnOk result (Gains (W.output writer.old) (W.output writer.new) (ip_text address.now)) }

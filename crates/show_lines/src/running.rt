@@ -70,8 +70,12 @@ pub fn show_lines<S: ShowLines, R: Read, W: Write + Drop>(
     Err(Stop::Reader)
 }
 
-/// Reads into `chunk`, as [`Read::read`] does. The output has to be flushed first: a program at the other end of two pipes may write its next
-/// line only after the output for the last one.
+/// Reads into `chunk`, as [`Read::read`] does. The output has to be flushed first: a program at the other end of two pipes
+/// may write its next line only after the output for the last one.
+///
+/// # Errors
+///
+/// That of the reader.
 pub fn read_more<R: Read, W: Write + Drop>(
     reader: &mut R,
     chunk: &mut [u8],
