@@ -3,7 +3,7 @@
 ghost use Rattle.link_tunnels.specs.Geneve.{geneve_table, geneve_means};
 ghost use Rattle.link_tunnels.specs.GeneveNames.{geneve_df_names};
 
-use crate::vxlan_port_range::VxlanPortRange;
+use crate::geneve_port_range::GenevePortRange;
 use link_base::rows::by_rows::{self, AttributeRows, RowVisitor};
 use link_base::rows::label::{KindLabel, Name};
 use link_base::{
@@ -47,9 +47,8 @@ pub enum InfoGeneve {
     /// The protocol of the inner packet is copied, so packets without an Ethernet header can be sent
     /// (`IFLA_GENEVE_INNER_PROTO_INHERIT`, a flag without payload).
     InnerProtoInherit,
-    /// UDP source ports of the tunnel's packets (`IFLA_GENEVE_PORT_RANGE`, `struct ifla_geneve_port_range`, which has
-    /// the fields of `struct ifla_vxlan_port_range`).
-    PortRange(VxlanPortRange),
+    /// UDP source ports of the tunnel's packets (`IFLA_GENEVE_PORT_RANGE`, `struct ifla_geneve_port_range`).
+    PortRange(GenevePortRange),
     /// An attribute of any other type.
     Other(DefaultNla),
 }
@@ -100,7 +99,7 @@ macro_rules! rows {
             IFLA_GENEVE_TTL_INHERIT = 12, TtlInherit: bool;
             IFLA_GENEVE_DF = 13, Df: Coded<GeneveDf>;
             IFLA_GENEVE_INNER_PROTO_INHERIT = 14, InnerProtoInherit;
-            IFLA_GENEVE_PORT_RANGE = 15, PortRange: Struct<VxlanPortRange>;
+            IFLA_GENEVE_PORT_RANGE = 15, PortRange: Struct<GenevePortRange>;
         }
     };
 }
@@ -152,7 +151,7 @@ impl Attribute for InfoGeneve {
     ghost use Rattle.std.specs.Prelude.{refl};
     ghost use Rattle.link_base.proofs.TableLaws.{lawful};
     ghost use Rattle.link_base.specs.Equality.{of_cases, thorough_fields};
-    ghost use Rattle.link_tunnels.specs.VxlanEquality.{port_ranges};
+    ghost use Rattle.link_tunnels.specs.GeneveEquality.{geneve_port_ranges};
     ghost use Rattle.link_tunnels.specs.contracts.geneve.InfoGeneve.{enum};
 
     #[inline(always)]
@@ -173,5 +172,5 @@ impl Attribute for InfoGeneve {
 
     ghost well_formed = { refl };
 
-    ghost thorough = { of_cases enum _ _ (Prim.search (thorough_fields, port_ranges)) };
+    ghost thorough = { of_cases enum _ _ (Prim.search (thorough_fields, geneve_port_ranges)) };
 }

@@ -35,7 +35,7 @@ pub use link_common::{
 pub use link_devices::{
     InfoIpVlan, InfoMacVlan, InfoNetkit, InfoTun, InfoVeth, InfoVrf, InfoVrfPort, MacVlanAddress,
 };
-pub use link_tunnels::{InfoGeneve, InfoVxlan, VxlanHeader, VxlanPortRange};
+pub use link_tunnels::{GenevePortRange, InfoGeneve, InfoVxlan, VxlanHeader, VxlanPortRange};
 pub use link_vlan_can::{
     CanBerrCounter, CanBitTiming, CanBitTimingConst, CanClock, CanCtrlMode, CanCtrlModeExt,
     CanCtrlModeFlags, CanTdc, HsrProtocol, InfoCan, InfoDsa, InfoHsr, InfoVlan, VlanFlags,
