@@ -1,6 +1,6 @@
 //! The names of the places of arrays in the attributes of a link.
 
-ghost use Rattle.link_common.specs.Places.{link_stats_names, link_stats64_names, ipv4_conf_names, ipv6_conf_names};
+ghost use Rattle.link_common.specs.Places.{link_stats_names, link_stats64_names, ipv4_conf_names, ipv6_conf_names, ipv6_stats_names, icmp6_stats_names};
 
 use link_base::NumberNames;
 use link_base::rows::label::Name;
@@ -105,6 +105,40 @@ impl NumberNames for Ipv6Conf {
             49 "accept_ra_rt_info_min_plen"; 50 "ndisc_tclass"; 51 "rpl_seg_enabled"; 52 "ra_defrtr_metric";
             53 "ioam6_enabled"; 54 "ioam6_id"; 55 "ioam6_id_wide"; 56 "ndisc_evict_nocarrier";
             57 "accept_untracked_na"; 58 "accept_ra_min_lft"; 59 "force_forwarding";
+        }
+    }
+}
+
+/// The counters of IPv6 packets of a link (`IPSTATS_MIB_*`, `include/uapi/linux/snmp.h`). Number 0 is how many there are.
+/// Names are the constants', in lower case. Only these places mean the same in Linux 5.10, 6.1, 6.12 and 6.18: from
+/// number 4 on, newer kernels have another order, and counters that older ones lack.
+pub struct Ipv6Stats;
+
+/// The places, and their names.
+impl NumberNames for Ipv6Stats {
+    type Number = u64;
+
+    ghost names = { ipv6_stats_names };
+
+    fn names() -> &'static [Name] {
+        places! { 0 "num"; 1 "inpkts"; 2 "inoctets"; 3 "indelivers"; }
+    }
+}
+
+/// The counters of ICMPv6 messages of a link (`ICMP6_MIB_*`, `include/uapi/linux/snmp.h`). Number 0 is how many there
+/// are. Names are the constants', in lower case. They mean the same in Linux 5.10, 6.1, 6.12 and 6.18; 5.10 has no
+/// `ratelimithost`.
+pub struct Icmp6Stats;
+
+/// The places, and their names.
+impl NumberNames for Icmp6Stats {
+    type Number = u64;
+
+    ghost names = { icmp6_stats_names };
+
+    fn names() -> &'static [Name] {
+        places! {
+            0 "num"; 1 "inmsgs"; 2 "inerrors"; 3 "outmsgs"; 4 "outerrors"; 5 "csumerrors"; 6 "ratelimithost";
         }
     }
 }

@@ -28,9 +28,9 @@ pub use link_bridge::{
 };
 pub use link_common::{
     AddrGenMode, AfSpecInet, AfSpecInet6, AfSpecMctp, AfSpecUnspec, CacheInfo, DevlinkPort,
-    DpllPin, ExtMask, Inet6Flags, Ipv4Conf, Ipv6Conf, LinkAttribute, LinkEvent, LinkInfo, LinkMap,
-    LinkMode, LinkProperty, LinkStats, LinkStats64, LinkXdp, OperState, ProtoDownReason,
-    ReplyAttribute, XdpAttached, XdpFlags,
+    DpllPin, ExtMask, Icmp6Stats, Inet6Flags, Ipv4Conf, Ipv6Conf, Ipv6Stats, LinkAttribute,
+    LinkEvent, LinkInfo, LinkMap, LinkMode, LinkProperty, LinkStats, LinkStats64, LinkXdp,
+    OperState, ProtoDownReason, ReplyAttribute, XdpAttached, XdpFlags,
 };
 pub use link_devices::{
     InfoIpVlan, InfoMacVlan, InfoNetkit, InfoTun, InfoVeth, InfoVrf, InfoVrfPort, MacVlanAddress,
