@@ -5,6 +5,7 @@ pub mod Flat
 pub mod Finding
 pub mod Fields
 pub mod Payload
+pub mod Units
 pub mod Rows
 pub mod Order
 pub mod Spelled

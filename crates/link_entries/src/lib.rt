@@ -2,7 +2,8 @@
 //! one for each element. [`flatten`] stores a list, [`find`] and [`find_in`] look an entry up, and [`write`](fn@write)
 //! writes the list that entries spell. Nothing is allocated.
 //!
-//! [`Entry`] has the layout of `struct nlroute_value` in the C API. [`forms`] has the numbers of its forms.
+//! [`Entry`] has the layout of `struct nlroute_value` in the C API. [`forms`] has the numbers of its forms, and [`units`] those
+//! of what its numbers count.
 #![tactic(auto)]
 
 mod arrays;
@@ -23,6 +24,7 @@ pub mod payload;
 mod row;
 pub mod spelling;
 pub mod storing;
+pub mod units;
 mod writing;
 
 pub use counting::count;
