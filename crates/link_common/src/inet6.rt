@@ -6,11 +6,10 @@ use crate::cache_info::CacheInfo;
 use crate::inet_names::{AddrGenMode, Inet6Flags};
 use crate::places::{Icmp6Stats, Ipv6Conf, Ipv6Stats};
 use link_base::classes::coded::{CodedFlags, Counters};
-use link_base::rows::by_rows::{self, AttributeRows, RowVisitor};
-use link_base::rows::label::KindLabel;
+use link_base::rows::by_rows::{AttributeRows, RowVisitor};
 use link_base::{
-    Attribute, Coded, DecodeError, DecodeFault, DefaultNla, Meaning, Nla, NlaBuffer, Parseable,
-    Place, Struct, TryClone,
+    Attribute, Coded, DecodeError, DefaultNla, Meaning, Nla, NlaBuffer, Parseable, Place, Struct,
+    TryClone,
 };
 use std::alloc::{AllocError, Global};
 use std::net::Ipv6Addr;
@@ -112,20 +111,6 @@ impl Attribute for AfSpecInet6 {
     ghost use Rattle.link_base.specs.Equality.{of_cases, thorough_fields};
     ghost use Rattle.link_common.specs.LinkEquality.{cache_infos};
     ghost use Rattle.link_common.specs.contracts.inet6.AfSpecInet6.{enum};
-
-    #[inline(always)]
-    fn check(buffer: &NlaBuffer<'_>) -> Result<(), DecodeFault> {
-        by_rows::check::<Self>(buffer)
-    }
-
-    #[inline(always)]
-    fn label(list: Option<u16>, kind: u16) -> Option<KindLabel> {
-        by_rows::label::<Self>(list, kind)
-    }
-
-    fn canonical(buffer: &NlaBuffer<'_>) -> bool {
-        by_rows::canonical::<Self>(buffer)
-    }
 
     ghost lawful = { lawful inet6_table };
 

@@ -5,11 +5,11 @@ ghost use Rattle.link_devices.specs.MacvlanNames.{macvlan_address_mode_names, ma
 
 use crate::macvlan_address::MacVlanAddress;
 use link_base::classes::coded::CodedFlags;
-use link_base::rows::by_rows::{self, AttributeRows, RowVisitor};
-use link_base::rows::label::{KindLabel, Name};
+use link_base::rows::by_rows::{AttributeRows, RowVisitor};
+use link_base::rows::label::Name;
 use link_base::{
-    Attribute, Coded, DecodeError, DecodeFault, DefaultNla, Meaning, NestedList, Nla, NlaBuffer,
-    NumberNames, Parseable, Place, TryClone,
+    Attribute, Coded, DecodeError, DefaultNla, Meaning, NestedList, Nla, NlaBuffer, NumberNames,
+    Parseable, Place, TryClone,
 };
 use std::alloc::{AllocError, Global};
 
@@ -203,20 +203,6 @@ impl Attribute for InfoMacVlan {
     ghost use Rattle.link_base.specs.Equality.{of_cases, thorough_fields};
     ghost use Rattle.link_devices.specs.contracts.macvlan_address.MacVlanAddressAttribute.TheImpl.Laws as addresses;
     ghost use Rattle.link_devices.specs.contracts.macvlan.InfoMacVlan.{enum};
-
-    #[inline(always)]
-    fn check(buffer: &NlaBuffer<'_>) -> Result<(), DecodeFault> {
-        by_rows::check::<Self>(buffer)
-    }
-
-    #[inline(always)]
-    fn label(list: Option<u16>, kind: u16) -> Option<KindLabel> {
-        by_rows::label::<Self>(list, kind)
-    }
-
-    fn canonical(buffer: &NlaBuffer<'_>) -> bool {
-        by_rows::canonical::<Self>(buffer)
-    }
 
     ghost lawful = { lawful macvlan_table };
 

@@ -4,11 +4,11 @@ ghost use Rattle.link_devices.specs.Netkit.{netkit_table, netkit_means};
 ghost use Rattle.link_devices.specs.NetkitNames.{netkit_mode_names, netkit_policy_names, netkit_scrub_names};
 
 use link_base::classes::peer::Peer;
-use link_base::rows::by_rows::{self, AttributeRows, RowVisitor};
-use link_base::rows::label::{KindLabel, Name};
+use link_base::rows::by_rows::{AttributeRows, RowVisitor};
+use link_base::rows::label::Name;
 use link_base::{
-    Attribute, Coded, DecodeError, DecodeFault, DefaultNla, Meaning, Nla, NlaBuffer, NumberNames,
-    Parseable, Place, TryClone,
+    Attribute, Coded, DecodeError, DefaultNla, Meaning, Nla, NlaBuffer, NumberNames, Parseable,
+    Place, TryClone,
 };
 use std::alloc::{AllocError, Global};
 
@@ -177,20 +177,6 @@ impl Attribute for InfoNetkit {
     ghost use Rattle.link_base.proofs.TableLaws.{lawful};
     ghost use Rattle.link_base.specs.Equality.{of_cases, thorough_fields};
     ghost use Rattle.link_devices.specs.contracts.netkit.InfoNetkit.{enum};
-
-    #[inline(always)]
-    fn check(buffer: &NlaBuffer<'_>) -> Result<(), DecodeFault> {
-        by_rows::check::<Self>(buffer)
-    }
-
-    #[inline(always)]
-    fn label(list: Option<u16>, kind: u16) -> Option<KindLabel> {
-        by_rows::label::<Self>(list, kind)
-    }
-
-    fn canonical(buffer: &NlaBuffer<'_>) -> bool {
-        by_rows::canonical::<Self>(buffer)
-    }
 
     ghost lawful = { lawful netkit_table };
 

@@ -4,11 +4,11 @@ ghost use Rattle.link_tunnels.specs.Geneve.{geneve_table, geneve_means};
 ghost use Rattle.link_tunnels.specs.GeneveNames.{geneve_df_names};
 
 use crate::geneve_port_range::GenevePortRange;
-use link_base::rows::by_rows::{self, AttributeRows, RowVisitor};
-use link_base::rows::label::{KindLabel, Name};
+use link_base::rows::by_rows::{AttributeRows, RowVisitor};
+use link_base::rows::label::Name;
 use link_base::{
-    Attribute, Be, Coded, DecodeError, DecodeFault, DefaultNla, Meaning, Nla, NlaBuffer,
-    NumberNames, Parseable, Place, Struct, TryClone,
+    Attribute, Be, Coded, DecodeError, DefaultNla, Meaning, Nla, NlaBuffer, NumberNames, Parseable,
+    Place, Struct, TryClone,
 };
 use std::alloc::{AllocError, Global};
 use std::net::{Ipv4Addr, Ipv6Addr};
@@ -153,20 +153,6 @@ impl Attribute for InfoGeneve {
     ghost use Rattle.link_base.specs.Equality.{of_cases, thorough_fields};
     ghost use Rattle.link_tunnels.specs.GeneveEquality.{geneve_port_ranges};
     ghost use Rattle.link_tunnels.specs.contracts.geneve.InfoGeneve.{enum};
-
-    #[inline(always)]
-    fn check(buffer: &NlaBuffer<'_>) -> Result<(), DecodeFault> {
-        by_rows::check::<Self>(buffer)
-    }
-
-    #[inline(always)]
-    fn label(list: Option<u16>, kind: u16) -> Option<KindLabel> {
-        by_rows::label::<Self>(list, kind)
-    }
-
-    fn canonical(buffer: &NlaBuffer<'_>) -> bool {
-        by_rows::canonical::<Self>(buffer)
-    }
 
     ghost lawful = { lawful geneve_table };
 

@@ -9,10 +9,9 @@ ghost use Rattle.link_base.specs.Labels.{names_in};
 
 use crate::classes::payload_class::PayloadClass;
 use crate::lists::canonical::is_fixed;
-use crate::rows::default_nla::DefaultNla;
 use crate::rows::fields::Field;
 use crate::rows::form::Form;
-use crate::rows::label::Name;
+use crate::rows::label::{KindLabel, Name};
 use crate::wire::buffer::NlaBuffer;
 use crate::wire::fault::{DecodeError, DecodeFault};
 use std::alloc::{AllocError, Global};
@@ -60,8 +59,6 @@ pub trait FixedSize {
 impl<F: FixedSize> PayloadClass for F {
     type Value = F::Value;
 
-    type Element = DefaultNla;
-
     const FORM: Form = <F as FixedSize>::FORM;
 
     ghost FORM = { F.FORM };
@@ -72,7 +69,10 @@ impl<F: FixedSize> PayloadClass for F {
 
     ghost content = { λ value. Single (F.told value) };
 
-    fn elements() {}
+    #[inline(always)]
+    fn element_label(_kind: u16) -> Option<KindLabel> {
+        None
+    }
 
     #[inline]
     fn names() -> &'static [Name] {
