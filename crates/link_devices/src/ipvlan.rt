@@ -35,20 +35,7 @@ impl NumberNames for IpvlanMode {
     ghost names = { ipvlan_mode_names };
 
     fn names() -> &'static [Name] {
-        &[
-            Name {
-                number: 0,
-                text: "l2",
-            },
-            Name {
-                number: 1,
-                text: "l3",
-            },
-            Name {
-                number: 2,
-                text: "l3s",
-            },
-        ]
+        link_base::names![0 "l2" 1 "l3" 2 "l3s"]
     }
 }
 
@@ -62,16 +49,7 @@ impl NumberNames for IpvlanFlags {
     ghost names = { ipvlan_flags_names };
 
     fn names() -> &'static [Name] {
-        &[
-            Name {
-                number: 1,
-                text: "PRIVATE",
-            },
-            Name {
-                number: 2,
-                text: "VEPA",
-            },
-        ]
+        link_base::names![1 "PRIVATE" 2 "VEPA"]
     }
 }
 

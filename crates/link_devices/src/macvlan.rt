@@ -57,28 +57,7 @@ impl NumberNames for MacvlanMode {
     ghost names = { macvlan_mode_names };
 
     fn names() -> &'static [Name] {
-        &[
-            Name {
-                number: 1,
-                text: "private",
-            },
-            Name {
-                number: 2,
-                text: "vepa",
-            },
-            Name {
-                number: 4,
-                text: "bridge",
-            },
-            Name {
-                number: 8,
-                text: "passthru",
-            },
-            Name {
-                number: 16,
-                text: "source",
-            },
-        ]
+        link_base::names![1 "private" 2 "vepa" 4 "bridge" 8 "passthru" 16 "source"]
     }
 }
 
@@ -92,16 +71,7 @@ impl NumberNames for MacvlanFlags {
     ghost names = { macvlan_flags_names };
 
     fn names() -> &'static [Name] {
-        &[
-            Name {
-                number: 1,
-                text: "NOPROMISC",
-            },
-            Name {
-                number: 2,
-                text: "NODST",
-            },
-        ]
+        link_base::names![1 "NOPROMISC" 2 "NODST"]
     }
 }
 
@@ -115,24 +85,7 @@ impl NumberNames for MacvlanAddressMode {
     ghost names = { macvlan_address_mode_names };
 
     fn names() -> &'static [Name] {
-        &[
-            Name {
-                number: 0,
-                text: "add",
-            },
-            Name {
-                number: 1,
-                text: "del",
-            },
-            Name {
-                number: 2,
-                text: "flush",
-            },
-            Name {
-                number: 3,
-                text: "set",
-            },
-        ]
+        link_base::names![0 "add" 1 "del" 2 "flush" 3 "set"]
     }
 }
 

@@ -52,16 +52,7 @@ impl NumberNames for NetkitPolicy {
     ghost names = { netkit_policy_names };
 
     fn names() -> &'static [Name] {
-        &[
-            Name {
-                number: 0,
-                text: "forward",
-            },
-            Name {
-                number: 2,
-                text: "blackhole",
-            },
-        ]
+        link_base::names![0 "forward" 2 "blackhole"]
     }
 }
 
@@ -75,16 +66,7 @@ impl NumberNames for NetkitMode {
     ghost names = { netkit_mode_names };
 
     fn names() -> &'static [Name] {
-        &[
-            Name {
-                number: 0,
-                text: "l2",
-            },
-            Name {
-                number: 1,
-                text: "l3",
-            },
-        ]
+        link_base::names![0 "l2" 1 "l3"]
     }
 }
 
@@ -98,16 +80,7 @@ impl NumberNames for NetkitScrub {
     ghost names = { netkit_scrub_names };
 
     fn names() -> &'static [Name] {
-        &[
-            Name {
-                number: 0,
-                text: "none",
-            },
-            Name {
-                number: 1,
-                text: "default",
-            },
-        ]
+        link_base::names![0 "none" 1 "default"]
     }
 }
 

@@ -48,16 +48,7 @@ impl NumberNames for TunType {
     ghost names = { tun_type_names };
 
     fn names() -> &'static [Name] {
-        &[
-            Name {
-                number: 1,
-                text: "tun",
-            },
-            Name {
-                number: 2,
-                text: "tap",
-            },
-        ]
+        link_base::names![1 "tun" 2 "tap"]
     }
 }
 

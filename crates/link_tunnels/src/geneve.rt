@@ -63,20 +63,7 @@ impl NumberNames for GeneveDf {
     ghost names = { geneve_df_names };
 
     fn names() -> &'static [Name] {
-        &[
-            Name {
-                number: 0,
-                text: "unset",
-            },
-            Name {
-                number: 1,
-                text: "set",
-            },
-            Name {
-                number: 2,
-                text: "inherit",
-            },
-        ]
+        link_base::names![0 "unset" 1 "set" 2 "inherit"]
     }
 }
 
