@@ -13,7 +13,7 @@ ghost use Rattle.link_show.specs.Structs.{bridge_id_text};
 ghost use Rattle.link_json.specs.Names.{short_name, without};
 ghost use Rattle.link_json.specs.Value.{text_json, hex_json, opaque_json, address_json};
 
-use crate::sheet::Sheet;
+use crate::document::Document;
 use json::Writer;
 use link_base::DecodeFault;
 use link_base::rows::form::Layout;
@@ -23,7 +23,7 @@ use netlink_packet_route::{Family, FamilySet};
 use std::alloc::{AllocError, Global};
 use std::str;
 
-impl Sheet {
+impl Document {
     /// Writes a text; an object with its bytes in hexadecimal, if it is not UTF-8.
     ///
     /// # Errors

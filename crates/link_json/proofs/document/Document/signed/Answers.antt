@@ -5,7 +5,7 @@ use Rattle.std.specs.Int.Signed.{mag}
 use Rattle.json.specs.Token.{number}
 use Rattle.link_json.specs.Doc.{four_signed}
 use Rattle.link_json.proofs.Loops.{on_ok}
-use Rattle.link_json.proofs.sheet.Sheet.signed.Goals as goal
+use Rattle.link_json.proofs.document.Document.signed.Goals as goal
 
 low : (z : ℤ) → mag z < 2 ^ 31 → z ≡ four_signed z
 low (pos n) h = let e : n ≡ n % 2 ^ 31 = omega (arith, h) in ap pos e

@@ -4,7 +4,7 @@ use Rattle.netlink_packet_route.specs.Family.{table_of}
 use Rattle.link_show.specs.Fault.{fault_text}
 use Rattle.link_show.proofs.ValuePrinting.{fault_is_text}
 use Rattle.link_show.proofs.HeldPrinting.{family_has_texts}
-use Rattle.link_json.proofs.sheet.Sheet.fault.Goals as goal
+use Rattle.link_json.proofs.document.Document.fault.Goals as goal
 
 pub push-requires : goal.push-requires
 push-requires c =

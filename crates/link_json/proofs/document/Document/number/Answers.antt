@@ -5,7 +5,7 @@ use Rattle.json.specs.Print.{IsNumber}
 use Rattle.json.proofs.Printed.Decimals.{IsNumber-decimal}
 use Rattle.link_json.specs.Doc.{eight_bytes}
 use Rattle.link_json.proofs.Loops.{on_ok}
-use Rattle.link_json.proofs.sheet.Sheet.number.Goals as goal
+use Rattle.link_json.proofs.document.Document.number.Goals as goal
 
 pub number-requires : goal.number-requires
 number-requires c = subst IsNumber (sym c.digit.ensures) (IsNumber-decimal c.args.n (omega arith))

@@ -17,7 +17,7 @@ use std::{io, mem};
 /// A document that is being written: its tokens so far. A call that fails is out of memory; a part of what it writes may
 /// then be there.
 #[derive(Drop)]
-pub struct Sheet {
+pub struct Document {
     pub(crate) writer: Writer<Global>,
     /// The text of a token, before it is written.
     pub(crate) text: Vec<u8>,
@@ -25,7 +25,7 @@ pub struct Sheet {
     pub(crate) name: String,
 }
 
-impl Model for Sheet {
+impl Model for Document {
     ghost Value = { List Token };
 
     ghost coded = { tokens_code };
@@ -35,19 +35,19 @@ impl Model for Sheet {
     ghost invariant = { λ s. s.writer.before ≡ [] };
 }
 
-impl Sheet {
-    /// Returns an empty sheet.
+impl Document {
+    /// Returns an empty document.
     pub fn new(alloc: Global) -> Self
         ensures { result ≡ [] }
     {
-        Sheet {
+        Document {
             writer: Writer::new(Vec::new(alloc)),
             text: Vec::new(alloc),
             name: String::new(alloc),
         }
     }
 
-    /// Writes the document as a line, and clears the sheet. The tokens of the line are those of the sheet.
+    /// Writes the document as a line, whose tokens are its own, and clears it.
     ///
     /// # Errors
     ///
@@ -63,7 +63,7 @@ impl Sheet {
         result
     }
 
-    /// Clears the sheet.
+    /// Clears the document.
     pub fn clear(&mut self, alloc: Global)
         ensures { self.new ≡ [] }
     {
@@ -71,7 +71,7 @@ impl Sheet {
         self.reuse(line);
     }
 
-    /// Returns the text of the document, whose tokens are those of the sheet.
+    /// Returns the text of the document, whose tokens are its own.
     fn take(&mut self, alloc: Global) -> Vec<u8>
         ensures text { result.items ≡ print self.old }
         ensures reads_back { tokens (print self.old) ≡ self.old }
@@ -79,7 +79,7 @@ impl Sheet {
         mem::replace(&mut self.writer, Writer::new(Vec::new(alloc))).into_inner()
     }
 
-    /// Clears the sheet, which then uses the memory of `line`.
+    /// Clears the document, which then uses the memory of `line`.
     fn reuse(&mut self, mut line: Vec<u8>)
         ensures { self.new ≡ [] }
     {

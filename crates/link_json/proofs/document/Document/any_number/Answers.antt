@@ -3,7 +3,7 @@ use Rattle.std.specs.Fmt.{decimal}
 use Rattle.json.specs.Token.{number}
 use Rattle.link_json.specs.Doc.{eight_bytes}
 use Rattle.link_json.proofs.Loops.{on_ok}
-use Rattle.link_json.proofs.sheet.Sheet.any_number.Goals as goal
+use Rattle.link_json.proofs.document.Document.any_number.Goals as goal
 
 pub returns : goal.returns
 returns c =

@@ -6,7 +6,7 @@ use Rattle.link_show.specs.Octets.{address_text}
 use Rattle.link_show.proofs.Printing.{address_digits}
 use Rattle.link_json.proofs.Printable.{some_octets}
 use Rattle.link_json.proofs.Loops.{on_ok}
-use Rattle.link_json.proofs.sheet.Sheet.address.Goals as goal
+use Rattle.link_json.proofs.document.Document.address.Goals as goal
 
 pub push-requires : goal.push-requires
 push-requires c = subst IsText (sym (c.deref.ensures.value ∙ c.in-Ok.ensures ∙ ap (λ t. t ++ address_text c.args.bytes.now) c.clear.ensures.items)) (address_digits c.args.bytes.now)

@@ -2,7 +2,7 @@ use Rattle.std.proofs.Common.{◌≡◌, ◌++◌, ◌∷◌, [], OnOk, sym, sub
 use Rattle.json.specs.Token.{string}
 use Rattle.json.specs.Tree.{json_tokens}
 use Rattle.link_json.proofs.Printable.{text_is_string, text_is_opaque}
-use Rattle.link_json.proofs.sheet.Sheet.text.Goals as goal
+use Rattle.link_json.proofs.document.Document.text.Goals as goal
 
 pub returns-in-Ok : goal.returns-in-Ok
 returns-in-Ok c =
