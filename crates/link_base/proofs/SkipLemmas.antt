@@ -12,7 +12,7 @@ use Rattle.link_base.specs.Wire.{Reading, FrameGives}
 use Rattle.link_base.specs.Table.{Rows, Shape, One, Table, AttrValue, Other, Gives, GivesBy, class_at, single_case}
 use Rattle.link_base.specs.Default.{default_table}
 use Rattle.link_base.specs.Lift.{lift_table}
-use Rattle.link_base.specs.Checked.{Passes, Settles}
+use Rattle.link_base.specs.Checked.{Passes, AllDecode}
 use Rattle.link_base.proofs.Lifted.{lift_option, class_at-lift}
 use Rattle.link_base.proofs.Checks.{accepted_one}
 use Rattle.link_base.proofs.FrameBytes.{length-frame_bytes, bytes-back}
@@ -68,7 +68,7 @@ module _ {V : Type 0} (gives : Reading V) (s : List ℕ) where
   pub passes_more : (n : ℕ) (rest next : List ℕ) (f : ℕ) (p : List ℕ) → Passes gives s n rest → rest ≢ [] → Splits rest f p next → (v : V) × gives f p (Ok v) → Passes gives s (n + 1) next
   passes_more n rest next f p h some split given = passes_of (n + 1) next (h.0 ++ given.0 ∷ []) (underway_more gives s n rest next h.0 f p given.0 (underway n rest h) some split given.1)
 
--- ---- attributes that settle others
+-- ---- attributes that show that others decode
 
 by_cause : (o : Option Cause) (k : ℕ) (w : Value) (v : AttrValue) → ok v ≡ single_case k (unless o w) → o ≡ None
 by_cause None k w v e = refl
@@ -80,29 +80,29 @@ IsNoList None = Unit {0}
 IsNoList (Some (One c)) = Unit {0}
 IsNoList (Some shape) = ⊥
 
-settled_by : (o : Option Shape) (f : ℕ) (p : List ℕ) → IsNoList o → (v : AttrValue) × GivesBy o f p (Ok v)
+all_decoded_by : (o : Option Shape) (f : ℕ) (p : List ℕ) → IsNoList o → (v : AttrValue) × GivesBy o f p (Ok v)
     → (q : List ℕ) → length q ≡ length p → (v : AttrValue) × GivesBy o f q (Ok v)
-settled_by None f p h given q same = (Other f q, refl)
-settled_by (Some (One c)) f p h given q same = accepted_one c (kind_of f) q (ap (λ n. length_cause (extent c) n) same ∙ by_cause (length_cause (extent c) (length p)) (kind_of f) (meant c p) given.0 given.1)
-settled_by (Some shape) f p h given q same = absurd h
+all_decoded_by None f p h given q same = (Other f q, refl)
+all_decoded_by (Some (One c)) f p h given q same = accepted_one c (kind_of f) q (ap (λ n. length_cause (extent c) n) same ∙ by_cause (length_cause (extent c) (length p)) (kind_of f) (meant c p) given.0 given.1)
+all_decoded_by (Some shape) f p h given q same = absurd h
 
--- an attribute that decodes and is no list settles those of its type and length
-pub settled : (table : Table) (f : ℕ) (p : List ℕ) → IsNoList (class_at table (kind_of f)) → (v : AttrValue) × Gives table f p (Ok v) → Settles (Gives table) f (length p)
-settled table f p h given q same = settled_by (class_at table (kind_of f)) f p h given q same
+-- if an attribute decodes and is no list, those of its type and length decode
+pub all_decoded : (table : Table) (f : ℕ) (p : List ℕ) → IsNoList (class_at table (kind_of f)) → (v : AttrValue) × Gives table f p (Ok v) → AllDecode (Gives table) f (length p)
+all_decoded table f p h given q same = all_decoded_by (class_at table (kind_of f)) f p h given q same
 
 no_lists : (o : Option Class) → IsNoList (lift_option o)
 no_lists None = tt
 no_lists (Some c) = tt
 
 -- so does any that decodes, in a table without lists
-pub leaf_settled : (table : Table) (rows : Rows) (f : ℕ) (p : List ℕ) → table ≡ lift_table rows → (v : AttrValue) × Gives table f p (Ok v) → Settles (Gives table) f (length p)
-leaf_settled table rows f p is given =
+pub leaves_decode : (table : Table) (rows : Rows) (f : ℕ) (p : List ℕ) → table ≡ lift_table rows → (v : AttrValue) × Gives table f p (Ok v) → AllDecode (Gives table) f (length p)
+leaves_decode table rows f p is given =
     let known : class_at table (kind_of f) ≡ lift_option (class_at rows (kind_of f)) = ap (λ t. class_at t (kind_of f)) is ∙ class_at-lift rows (kind_of f) in
-    settled table f p (subst IsNoList (sym known) (no_lists (class_at rows (kind_of f)))) given
+    all_decoded table f p (subst IsNoList (sym known) (no_lists (class_at rows (kind_of f)))) given
 
 -- any attribute without a row decodes
-pub settled_any : (f n : ℕ) → Settles (Gives default_table) f n
-settled_any f n p same = (Other f p, refl)
+pub elements_decode_all : (f n : ℕ) → AllDecode (Gives default_table) f n
+elements_decode_all f n p same = (Other f p, refl)
 
 -- ---- attributes of one length
 

@@ -28,5 +28,5 @@ abbrev pub Passes : {V : Type 0} → Reading V → List ℕ → ℕ → List ℕ
 Passes {V} gives s n rest = (vs : List V) × Begins gives s vs rest × (n ≡ length vs)
 
 -- every attribute with this `nla_type` and a payload of n bytes decodes
-abbrev pub Settles : {V : Type 0} → Reading V → ℕ → ℕ → Type 0
-Settles {V} gives f n = (p : List ℕ) → length p ≡ n → (v : V) × gives f p (Ok v)
+abbrev pub AllDecode : {V : Type 0} → Reading V → ℕ → ℕ → Type 0
+AllDecode {V} gives f n = (p : List ℕ) → length p ≡ n → (v : V) × gives f p (Ok v)

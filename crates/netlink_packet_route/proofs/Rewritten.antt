@@ -17,7 +17,7 @@ use Rattle.link_base.proofs.Cuts.{AreFrames-head}
 use Rattle.link_base.proofs.FrameBytes.{frame_fault-frame, length-frame_bytes}
 use Rattle.link_base.proofs.Readings.{one_values, not_both}
 use Rattle.link_base.proofs.Rewritings.{fixed_iff_canonical, never_longer, reads_back, second, second_canonical, third, one_rewriting, canonical_reads, canonical_stays}
-use Rattle.netlink_packet_route.specs.Rewrite.{RewriteFaultUnless, TooLongIff, SucceedsIf, WritesValues, ReadsBack, Settles, IsRewritten, Rewrites, WritesOrLacksRoom, KeepsOrLacksRoom}
+use Rattle.netlink_packet_route.specs.Rewrite.{RewriteFaultUnless, TooLongIff, SucceedsIf, WritesValues, ReadsBack, Converges, IsRewritten, Rewrites, WritesOrLacksRoom, KeepsOrLacksRoom}
 
 -- a string that reads as some value begins with a frame
 begins_by : {V : Type 0} (gives : Reading V) (xs : List Frame) (vs : List V) → AreFrames xs → AllZip (λ x v. FrameGives gives x (Ok v)) xs vs → 0 < length vs → frame_fault (spelled xs) ≡ None
@@ -51,8 +51,8 @@ module _ {table : Table} (law : IsLawful table) (s : List ℕ) (hs : IsBytes s) 
   pub back : ReadsBack table s t
   back vs w = subst (λ us. Wire (Gives table) t (map cut us)) (one_values law.reading s r.values vs r.wire w) (reads_back law.reading law.holding law.writing s t hs r)
 
-  pub settles : Settles table t
-  settles =
+  pub converges : Converges table t
+  converges =
       let own = third law.reading law.holding law.writing s t hs r in
       record {
         second = written_list (map cut r.values);
@@ -116,7 +116,7 @@ is_rewritten law s hs t r = record {
   same = same_iff law s hs t r;
   no_longer = no_longer law s hs t r;
   back = back law s hs t r;
-  settles = settles law s hs t r;
+  converges = converges law s hs t r;
 }
 
 -- what is written for values that were read and all fit

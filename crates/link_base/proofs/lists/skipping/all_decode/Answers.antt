@@ -4,8 +4,8 @@ use Rattle.link_base.specs.Frame.{kind_of}
 use Rattle.link_base.specs.Table.{label_at}
 use Rattle.link_base.proofs.ContentBy.{single_class, no_row}
 use Rattle.link_base.proofs.Entries.{class_of_none}
-use Rattle.link_base.proofs.SkipLemmas.{IsNoList, settled}
-use Rattle.link_base.proofs.lists.skipping.settles.Goals as goal
+use Rattle.link_base.proofs.SkipLemmas.{IsNoList, all_decoded}
+use Rattle.link_base.proofs.lists.skipping.all_decode.Goals as goal
 
 pub returns-in-Some : goal.returns-in-Some
 returns-in-Some g c single =
@@ -13,7 +13,7 @@ returns-in-Some g c single =
     let first = c.args.first.now in
     let f = kind_field_of first in
     let class = single_class table f g.met.F.Attribute.well_formed c.in-Some.label (c.in-Some.ensures ∙ ap (label_at table) c.kind.ensures) (sym c.is_single.ensures ∙ single) in
-    settled table f (payload_of first) (subst IsNoList (sym class.1) tt) c.in-Ok.ensures
+    all_decoded table f (payload_of first) (subst IsNoList (sym class.1) tt) c.in-Ok.ensures
 
 pub returns-in-None : goal.returns-in-None
 returns-in-None g c is =
@@ -21,4 +21,4 @@ returns-in-None g c is =
     let first = c.args.first.now in
     let f = kind_field_of first in
     let none = class_of_none table (kind_of f) (no_row table f g.met.F.Attribute.well_formed (c.in-None.ensures ∙ ap (label_at table) c.kind.ensures)) in
-    settled table f (payload_of first) (subst IsNoList (sym none) tt) c.in-Ok.ensures
+    all_decoded table f (payload_of first) (subst IsNoList (sym none) tt) c.in-Ok.ensures
