@@ -5,9 +5,9 @@ ghost use Rattle.json.specs.Token.{string};
 ghost use Rattle.json.specs.Tree.{json_tokens};
 ghost use Rattle.link_base.specs.Buffer.{payload_of};
 ghost use Rattle.link_base.specs.Labels.{label_in, label_of};
-ghost use Rattle.link_messages.specs.Shown.{holder_of};
+ghost use Rattle.link_messages.specs.Shown.{nest_of};
 ghost use Rattle.link_json.specs.Doc.{each_tokens};
-ghost use Rattle.link_json.specs.List.{ShowsFlat, ShowsPlain, holder_name, held_front, holder_front, holder_back, shows_leaf, state_json, if_sized};
+ghost use Rattle.link_json.specs.List.{ShowsFlat, ShowsPlain, nest_name, held_front, nest_front, nest_back, shows_leaf, state_json, if_sized};
 ghost use Rattle.link_json.specs.List.{WritesOne, WritesAddresses};
 
 use crate::document::Document;
@@ -22,12 +22,12 @@ use netlink_packet_route::link::BridgePortState;
 use std::alloc::AllocError;
 
 /// Begins an attribute that holds a list: writes its name, and begins its value.
-pub(crate) fn begin_holder(doc: &mut Document, held: &HeldList<'_>) -> Result<(), AllocError>
-    ensures { OnOk result (doc.new ≡ doc.old ++ holder_front (holder_of held.now)) }
+pub(crate) fn begin_nest(doc: &mut Document, held: &HeldList<'_>) -> Result<(), AllocError>
+    ensures { OnOk result (doc.new ≡ doc.old ++ nest_front (nest_of held.now)) }
 {
     doc.begin_object()?;
     doc.key("name")?;
-    write_holder_name(doc, held.label)?;
+    write_nest_name(doc, held.label)?;
     doc.key("value")?;
     begin_held(doc, held.header)
 }
@@ -48,8 +48,8 @@ fn begin_held(doc: &mut Document, header: Option<LinkHeader>) -> Result<(), Allo
 }
 
 /// Ends an attribute that holds a list.
-pub(crate) fn end_holder(doc: &mut Document, header: Option<LinkHeader>) -> Result<(), AllocError>
-    ensures { OnOk result (doc.new ≡ doc.old ++ holder_back header) }
+pub(crate) fn end_nest(doc: &mut Document, header: Option<LinkHeader>) -> Result<(), AllocError>
+    ensures { OnOk result (doc.new ≡ doc.old ++ nest_back header) }
 {
     doc.end_array()?;
     match header {
@@ -62,8 +62,8 @@ pub(crate) fn end_holder(doc: &mut Document, header: Option<LinkHeader>) -> Resu
 }
 
 /// Writes the name of an attribute that holds a list. One without a row is an `IFLA_PROTINFO`.
-fn write_holder_name(doc: &mut Document, label: &Option<KindLabel>) -> Result<(), AllocError>
-    ensures { OnOk result (doc.new ≡ doc.old ++ string (holder_name (label_in label.now)) ∷ []) }
+fn write_nest_name(doc: &mut Document, label: &Option<KindLabel>) -> Result<(), AllocError>
+    ensures { OnOk result (doc.new ≡ doc.old ++ string (nest_name (label_in label.now)) ∷ []) }
 {
     match label {
         Some(label) => doc.short_name(label.prefix, label.name),

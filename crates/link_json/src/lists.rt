@@ -6,10 +6,10 @@ ghost use Rattle.json.specs.Tree.{json_tokens};
 ghost use Rattle.netlink_packet_route.specs.Family.{table_of};
 ghost use Rattle.link_show.specs.Fault.{fault_text};
 ghost use Rattle.link_json.specs.Doc.{error_json};
-ghost use Rattle.link_json.specs.List.{elements, ShowsList, ShowsArray, fault_json, holder_front, Adds, adds_none, adds_more, WritesValue};
+ghost use Rattle.link_json.specs.List.{elements, ShowsList, ShowsArray, fault_json, nest_front, Adds, adds_none, adds_more, WritesValue};
 
 use crate::document::Document;
-use crate::elements::{begin_holder, end_holder, write_leaf};
+use crate::elements::{begin_nest, end_nest, write_leaf};
 use crate::parts::write_number_field;
 use link_base::views::content::Known;
 use link_base::{DecodeFault, NlaBuffer};
@@ -51,7 +51,7 @@ impl ListVisitor<Document> for ElementVisitor {
 
     ghost adds = { λ old new js. Adds old new js };
 
-    ghost begins = { λ v level h old new. new ≡ old ++ holder_front h };
+    ghost begins = { λ v level h old new. new ≡ old ++ nest_front h };
 
     ghost reaches = { λ v list. ⊤ };
 
@@ -90,7 +90,7 @@ impl ListVisitor<Document> for ElementVisitor {
         _level: u8,
         held: &HeldList<'_>,
     ) -> Result<(), AllocError> {
-        begin_holder(writer, held)
+        begin_nest(writer, held)
     }
 
     fn end(
@@ -100,7 +100,7 @@ impl ListVisitor<Document> for ElementVisitor {
         held: &HeldList<'_>,
         whole: bool,
     ) -> Result<bool, AllocError> {
-        end_holder(writer, held.header)?;
+        end_nest(writer, held.header)?;
         Ok(whole)
     }
 
