@@ -6,7 +6,7 @@ use Rattle.link_base.specs.declared.wire.fault.Cause.{Cause}
 use Rattle.link_base.specs.declared.wire.fault.DecodeFault.{DecodeFault}
 use Rattle.link_base.specs.Class.{Class, Value, extent, length_cause, unless, meant}
 use Rattle.link_base.specs.Number.{IsBytes}
-use Rattle.link_base.specs.Frame.{Frame, BeginsWith, bare, kind_of, pad, frame_bytes, spelled}
+use Rattle.link_base.specs.Frame.{Frame, BeginsWith, bare, kind_of, pad, frame_bytes, bytes_of_frames}
 use Rattle.link_base.specs.Layout.{number_at}
 use Rattle.link_base.specs.Wire.{Reading, FrameGives}
 use Rattle.link_base.specs.Table.{Rows, Shape, One, Table, AttrValue, Other, Gives, GivesBy, class_at, single_case}
@@ -31,9 +31,9 @@ zip_length P [] (y ∷ ys) h = absurd h
 zip_length P (x ∷ xs) [] h = absurd h
 zip_length P (x ∷ xs) (y ∷ ys) h = ap suc (zip_length P xs ys h.1)
 
-least : (xs : List Frame) → length xs ≤ length (spelled xs)
+least : (xs : List Frame) → length xs ≤ length (bytes_of_frames xs)
 least [] = omega arith
-least (x ∷ xs) = omega (arith, length-append (frame_bytes x) (spelled xs), length-frame_bytes x, least xs)
+least (x ∷ xs) = omega (arith, length-append (frame_bytes x) (bytes_of_frames xs), length-frame_bytes x, least xs)
 
 module _ {V : Type 0} (gives : Reading V) (s : List ℕ) where
   -- the values so far, with as many frames
@@ -54,11 +54,11 @@ module _ {V : Type 0} (gives : Reading V) (s : List ℕ) where
   pub passes_few : (n : ℕ) (rest : List ℕ) → Passes gives s n rest → n + length rest ≤ length s
   passes_few n rest h =
       let w = underway n rest h in
-      omega (arith, w.counted.many, least w.counted.front, ap length w.counted.string, length-append (spelled w.counted.front) rest)
+      omega (arith, w.counted.many, least w.counted.front, ap length w.counted.string, length-append (bytes_of_frames w.counted.front) rest)
 
   -- what follows consists of bytes
   pub passes_bytes : (n : ℕ) (rest : List ℕ) → Passes gives s n rest → IsBytes s → IsBytes rest
-  passes_bytes n rest (vs, b, many) known = bytes-back (spelled b.frames) rest (subst IsBytes b.string known)
+  passes_bytes n rest (vs, b, many) known = bytes-back (bytes_of_frames b.frames) rest (subst IsBytes b.string known)
 
   -- none yet
   pub passes_none : Passes gives s 0 s

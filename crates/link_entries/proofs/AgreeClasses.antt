@@ -1,4 +1,4 @@
--- What is read of a payload that an entry spells: every form of a single value, and lists without their elements.
+-- What is read of a payload that an entry encodes to: every form of a single value, and lists without their elements.
 use Rattle.std.proofs.Common.{◌≡◌, inl, inr, ℕ, zero, suc, ◌-◌, ◌%◌, ◌<◌, ◌≤◌, ◌==◌, ◌&&◌, ◌||◌, Bool, true, false, cond, List, ◌++◌, length, map, take, drop, reverse, Option, Some, None, Result, Ok, Err, refl, sym, ap, subst, ◌∙◌, arith, take_all, take_at, drop_at, ◌+◌}
 use Rattle.std.specs.Prelude.{nat_le, nat_lt, slice_index}
 use Rattle.std.specs.Int.{w32, w64, cast_signed, cast_unsigned}
@@ -34,7 +34,7 @@ use Rattle.link_entries.specs.declared.misfit.Misfit.TheVariants.{BadNumber, Bad
 use Rattle.link_entries.specs.Fields.{any_number, struct_fields, row_fields, fields_in, fields_at}
 use Rattle.link_entries.specs.Payload.{form_in, is_i32, only_if, passed, payload_of, pair_of, rewritten, has_form, field_of}
 use Rattle.link_entries.specs.Agreement.{IsEntry, referred, SameContent, IsSame}
-use Rattle.link_entries.proofs.RowForms.{is_value, size_in, is_sized, SpellsAny, struct_sized, tied, is_list, with_kind, struct_value, value_no_list, NoRow, OneValue, Array, AddressList, NestedList, row_says}
+use Rattle.link_entries.proofs.RowForms.{is_value, size_in, is_sized, EncodesAny, struct_sized, tied, is_list, with_kind, struct_value, value_no_list, NoRow, OneValue, Array, AddressList, NestedList, row_says}
 use Rattle.link_entries.proofs.FlagBytes.{flag_read}
 use Rattle.link_entries.proofs.BackValues.{StandsAt, negative, padded_back}
 use Rattle.link_entries.proofs.WrittenLists.{same_these, if_held, only_held, both_true, content_ok, passed_held, headed_held}
@@ -156,7 +156,7 @@ module _ (e : Entry) (octets p : List ℕ) (held : IsEntry e) where
   referred_is size h = (passed_held size e octets p h).is
 
   -- payloads of one size
-  any_read : (own : Fields) (f n : ℕ) (list : List ℕ) (bare : Entry) → StandsAt bare list p → SpellsAny own → payload_of own e octets ≡ Ok p → IsRead own octets e list (told_by f own (classes.Raw p) n bare)
+  any_read : (own : Fields) (f n : ℕ) (list : List ℕ) (bare : Entry) → StandsAt bare list p → EncodesAny own → payload_of own e octets ≡ Ok p → IsRead own octets e list (told_by f own (classes.Raw p) n bare)
   any_read (fields.Number code w most order) f n list bare at any h = (refl, number_read code w order (ap (λ m. payload_of (fields.Number code w m order) e octets) (sym any) ∙ h))
   any_read (fields.Shorts code second_first) f n list bare at any h =
       let both = only_held (nat_lt e.number 65536 && nat_lt e.second 65536) BadNumber _ p (content_ok (fields.Shorts code second_first) e octets p h) in
@@ -172,7 +172,7 @@ module _ (e : Entry) (octets p : List ℕ) (held : IsEntry e) where
 
   -- in a list, where the payload stands
   module _ (f n : ℕ) (list : List ℕ) (bare : Entry) (at : StandsAt bare list p) where
-    exact_read : (own : Fields) → SpellsAny own → is_sized own ≡ true → payload_of own e octets ≡ Ok p → IsRead own octets e list (told_by f own (classes.Raw (take (size_in own) p)) n bare)
+    exact_read : (own : Fields) → EncodesAny own → is_sized own ≡ true → payload_of own e octets ≡ Ok p → IsRead own octets e list (told_by f own (classes.Raw (take (size_in own) p)) n bare)
     exact_read own any sized h =
         let size = written_size e octets p held.octets own sized h in
         subst (λ q. IsRead own octets e list (told_by f own (classes.Raw q) n bare)) (sym (take_all (size_in own) p (omega (arith, size)))) (any_read own f n list bare at any h)

@@ -28,14 +28,14 @@ use Rattle.link_entries.proofs.RowForms.{is_list, value_no_list, RowTold, NoRow,
 use Rattle.link_entries.proofs.BackValues.{StandsAt}
 use Rattle.link_entries.proofs.BackSingles.{none_below}
 use Rattle.link_entries.proofs.Located.{Located, suffix_whole, Suffix, suffix_payload, suffix_rest}
-use Rattle.link_entries.proofs.WrittenLists.{form_held, if_held, same_spells, before_ok}
+use Rattle.link_entries.proofs.WrittenLists.{form_held, if_held, same_encodings, before_ok}
 use Rattle.link_entries.proofs.WrittenParts.{Parts, single_payload, list_payload, field_held, parts}
 use Rattle.link_entries.proofs.WrittenParts as written_fields
 use Rattle.link_entries.proofs.AgreeClasses.{IsRead, same_of, single_read, list_read}
 use Rattle.link_entries.proofs.AgreeElements.{ElementAs, array_same, addresses_same, nested_same, first_is, no_first, not_empty}
 use Rattle.std.proofs.lemmas.Bool.{eqb-true, eq-eqb}
 use Rattle.link_entries.specs.declared.misfit.Misfit.TheVariants.{BadElement}
-use Rattle.link_entries.specs.Spelled.{attribute_of, entry_of, entries_of, begins_well, spelled_by}
+use Rattle.link_entries.specs.Encoded.{attribute_of, entry_of, entries_of, begins_well, encoded_by}
 use Rattle.link_entries.proofs.Groups.{joined}
 
 module _ (table : Table) (formed : is_table table ≡ true) (octets : List ℕ) (e : Entry) (es : List Entry) (s : List ℕ) (held : IsEntry e) (w : Parts IsEntry table octets e es s) where
@@ -167,14 +167,14 @@ module _ (table : Table) (formed : is_table table ≡ true) (octets list : List 
   passed_over [] rest t deep h = h
   passed_over (e ∷ below) rest t deep h =
       let both = before_ok (entry_of table octets e (below ++ rest)) (entries_of table octets (below ++ rest)) t h in
-      let none : [] ≡ both.first = same_spells [] both.first (sym (ap (λ n. cond (n == 0) (attribute_of table octets e (below ++ rest)) (Ok [])) deep.0) ∙ both.is_first) in
+      let none : [] ≡ both.first = same_encodings [] both.first (sym (ap (λ n. cond (n == 0) (attribute_of table octets e (below ++ rest)) (Ok [])) deep.0) ∙ both.is_first) in
       let all : both.second ≡ t = sym (both.is ∙ ap (λ u. u ++ both.second) (sym none)) in
       passed_over below rest t deep.1 (both.is_second ∙ ap (λ u. Ok u) all)
 
   rest_agrees : (s : List ℕ) (items : List Item) (u : List ℕ) (groups : List (List Entry)) (es : List Entry) → Walks (length list) s items u → u ≡ [] → Suffix list s → AllZip (IsGroup table) items groups
       → begins_well es ≡ true → AllByRecursion IsEntry es → entries_of table octets es ≡ Ok s → AllZip (Agrees table octets list) es (joined groups)
   rest_agrees s [] u [] [] walks last suffix each begins held h = tt
-  rest_agrees s (x ∷ items) u (g ∷ groups) [] walks last suffix each begins held h = absurd (no_first s x.1 walks.1.0 (sym (same_spells [] s h)) walks.1.1)
+  rest_agrees s (x ∷ items) u (g ∷ groups) [] walks last suffix each begins held h = absurd (no_first s x.1 walks.1.0 (sym (same_encodings [] s h)) walks.1.1)
   rest_agrees s [] u [] (e ∷ es) walks last suffix each begins held h =
       let both = before_ok (entry_of table octets e es) (entries_of table octets es) s h in
       let own : attribute_of table octets e es ≡ Ok both.first = sym (ap (λ b. cond b (attribute_of table octets e es) (Ok [])) begins) ∙ both.is_first in
@@ -201,7 +201,7 @@ module _ (table : Table) (formed : is_table table ≡ true) (octets list : List 
   rest_agrees s items u groups es walks last suffix each begins held h = absurd each
 
 -- the entries of what was written are those that were written
-pub written_agrees : (table : Table) → is_table table ≡ true → (octets list : List ℕ) (es read : List Entry) → AllByRecursion IsEntry es → spelled_by table octets es ≡ Ok list → Flat table list read → AllZip (Agrees table octets list) es read
+pub written_agrees : (table : Table) → is_table table ≡ true → (octets list : List ℕ) (es read : List Entry) → AllByRecursion IsEntry es → encoded_by table octets es ≡ Ok list → Flat table list read → AllZip (Agrees table octets list) es read
 written_agrees table formed octets list es read held h flat =
     let (well, entries) = if_held (begins_well es) (0, BadElement) (entries_of table octets es) list h in
     subst (λ l. AllZip (Agrees table octets list) es l) (sym flat.joined)

@@ -1,4 +1,4 @@
--- An entry that was read spells what a rewriting writes: every form of a single value.
+-- An entry that was read encodes to what a rewriting writes: every form of a single value.
 use Rattle.std.proofs.Common.{◌≡◌, ℕ, ◌+◌, ◌-◌, ◌<◌, ◌≤◌, ◌==◌, ◌&&◌, Bool, true, false, cond, List, ◌++◌, length, map, take, drop, reverse, Some, None, Ok, Err, refl, sym, ap, ap₂, ◌∙◌, arith, take_all, take-take}
 use Rattle.std.specs.Prelude.{nat_lt, slice_index}
 use Rattle.std.proofs.lemmas.Bool.{eq-eqb, leb-true, le-leb, lt-ltb}
@@ -31,7 +31,7 @@ use Rattle.link_entries.specs.declared.fields.Fields.TheVariants as fields
 use Rattle.link_entries.specs.declared.misfit.Misfit.TheVariants.{BadNumber, BadOctets}
 use Rattle.link_entries.specs.Fields.{any_number, role_form, struct_fields, row_fields}
 use Rattle.link_entries.specs.Payload.{only_if, passed, payload_of, rewritten, pair_of}
-use Rattle.link_entries.proofs.RowForms.{is_value, size_in, SpellsAny, struct_sized, tied}
+use Rattle.link_entries.proofs.RowForms.{is_value, size_in, EncodesAny, struct_sized, tied}
 use Rattle.link_entries.proofs.FlagBytes.{flag_back}
 use Rattle.link_entries.proofs.BackValues.{StandsAt, right_form, passes, whole_number, passed_back, at_back, at_below, halves, address_back, padded_back, signed_back, first_below, low2, front_stands}
 
@@ -52,7 +52,7 @@ halves_back w q second_first bytes size =
     ]
 
 -- an entry that was read of any bytes of the size
-any_back : (own : Fields) (f n : ℕ) (e : Entry) (list q : List ℕ) → IsBytes q → StandsAt e list q → SpellsAny own → length q ≡ size_in own → payload_of own (told_by f own (classes.Raw q) n e) list ≡ Ok q
+any_back : (own : Fields) (f n : ℕ) (e : Entry) (list q : List ℕ) → IsBytes q → StandsAt e list q → EncodesAny own → length q ≡ size_in own → payload_of own (told_by f own (classes.Raw q) n e) list ≡ Ok q
 any_back (fields.Number code w most order) f n e list q bytes at any size =
     let read : ℕ → Entry = λ m. told_by f (fields.Number code w m order) (classes.Raw q) n e in
     ap (λ m. payload_of (fields.Number code w m order) (read m) list) any ∙ whole_number code w order q (read (bound (bytes_in w) - 1)) list bytes size refl refl
@@ -92,14 +92,14 @@ limits_front p enough =
 
 module _ (f n : ℕ) (e : Entry) (list p : List ℕ) (bytes : IsBytes p) (at : StandsAt e list p) where
   -- the first bytes of the payload
-  part_back : (own : Fields) (x : Extent) (e' : Entry) → SpellsAny own → length_cause x (length p) ≡ None → size_in own ≡ size_of x → e'.offset ≡ e.offset → e'.length ≡ size_of x
+  part_back : (own : Fields) (x : Extent) (e' : Entry) → EncodesAny own → length_cause x (length p) ≡ None → size_in own ≡ size_of x → e'.offset ≡ e.offset → e'.length ≡ size_of x
       → payload_of own (told_by f own (classes.Raw (take (size_of x) p)) n e') list ≡ Ok (take (size_of x) p)
   part_back own x e' any ok tied place size =
       let kept = meant_in_range (classes.Octets x) p bytes ok in
       any_back own f n e' list (take (size_of x) p) kept.1 (front_stands e list p (size_of x) at (size_reached x (length p) ok) e' place size) any (kept.0 ∙ sym tied)
 
   -- all bytes
-  exact_back : (own : Fields) → SpellsAny own → length_cause (Exactly (size_in own)) (length p) ≡ None → payload_of own (told_by f own (classes.Raw (take (size_in own) p)) n e) list ≡ Ok (take (size_in own) p)
+  exact_back : (own : Fields) → EncodesAny own → length_cause (Exactly (size_in own)) (length p) ≡ None → payload_of own (told_by f own (classes.Raw (take (size_in own) p)) n e) list ≡ Ok (take (size_in own) p)
   exact_back own any ok = part_back own (Exactly (size_in own)) e any ok refl refl (at.size ∙ exactly (size_in own) (length p) ok)
 
   struct_back : (layout : Layout) (names : List (ℕ × List ℕ)) → length_cause (layout_extent layout) (length p) ≡ None

@@ -1,4 +1,4 @@
--- An entry that was read spells what a rewriting writes: payloads of one class.
+-- An entry that was read encodes to what a rewriting writes: payloads of one class.
 use Rattle.std.proofs.Common.{◌≡◌, inl, inr, ℕ, suc, ◌+◌, ◌-◌, ◌/◌, ◌%◌, ◌<◌, ◌≤◌, ◌==◌, ◌&&◌, ◌||◌, Bool, true, cond, pos, negsuc, List, [], ◌∷◌, ◌++◌, length, take, drop, replicate, Option, Ok, Err, refl, sym, ap, ap₂, ◌∙◌, arith, take_all, take_at, take-take}
 use Rattle.std.specs.Prelude.{nat_le, nat_lt, slice_index}
 use Rattle.std.specs.Int.{w32, w64, cast_signed, cast_unsigned}

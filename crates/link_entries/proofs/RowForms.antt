@@ -97,7 +97,7 @@ single_value form s a = refl
 
 -- ---- sizes
 
--- how many bytes entries with these fields spell, without elements; of a peer, how many at least
+-- how many bytes entries with these fields encode to, without elements; of a peer, how many at least
 abbrev pub size_in : Fields → ℕ
 size_in (fields.Number form w most order) = bytes_in w
 size_in fields.Signed = 4
@@ -111,7 +111,7 @@ size_in fields.Peer = 16
 size_in fields.Limits = 48
 size_in own = 0
 
--- whether they always spell so many
+-- whether they always encode to so many
 abbrev pub is_sized : Fields → Bool
 is_sized fields.FlagOrBool = false
 is_sized (fields.Address form n) = nat_le n 16
@@ -120,17 +120,17 @@ is_sized fields.Peer = false
 is_sized fields.Unknown = false
 is_sized own = true
 
--- they spell any bytes of this size
-abbrev pub SpellsAny : Fields → Type 0
-SpellsAny (fields.Number form w most order) = most ≡ bound (bytes_in w) - 1
-SpellsAny (fields.Shorts form second_first) = true ≡ true
-SpellsAny (fields.Words form second_first) = true ≡ true
-SpellsAny (fields.Address form n) = nat_le n 16 ≡ true
-SpellsAny fields.BridgeId = true ≡ true
-SpellsAny (fields.Passed form (Some n)) = true ≡ true
-SpellsAny own = false ≡ true
+-- they encode to any bytes of this size
+abbrev pub EncodesAny : Fields → Type 0
+EncodesAny (fields.Number form w most order) = most ≡ bound (bytes_in w) - 1
+EncodesAny (fields.Shorts form second_first) = true ≡ true
+EncodesAny (fields.Words form second_first) = true ≡ true
+EncodesAny (fields.Address form n) = nat_le n 16 ≡ true
+EncodesAny fields.BridgeId = true ≡ true
+EncodesAny (fields.Passed form (Some n)) = true ≡ true
+EncodesAny own = false ≡ true
 
-pub struct_sized : (layout : Layout) → (is_sized (struct_fields layout) ≡ true) × SpellsAny (struct_fields layout)
+pub struct_sized : (layout : Layout) → (is_sized (struct_fields layout) ≡ true) × EncodesAny (struct_fields layout)
 struct_sized layouts.BridgeId = (refl, refl)
 struct_sized layout = (refl, refl)
 

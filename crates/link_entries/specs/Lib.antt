@@ -8,6 +8,6 @@ pub mod Payload
 pub mod Units
 pub mod Rows
 pub mod Order
-pub mod Spelled
+pub mod Encoded
 pub mod Stored
 pub mod Agreement

@@ -1,4 +1,4 @@
--- The payloads that entries spell.
+-- The payloads that entries encode to.
 use Rattle.std.specs.Prelude.{ℕ, ◌+◌, ◌-◌, ◌^◌, ◌%◌, ◌==◌, ◌&&◌, ◌||◌, Bool, true, false, List, [], ◌++◌, length, take, drop, reverse, Option, Some, None, Result, Ok, Err, nat_lt, nat_le, if◌then◌else◌}
 use Rattle.std.specs.Borrow.{Bor}
 use Rattle.link_base.specs.Forms.{bytes_in as width_of}

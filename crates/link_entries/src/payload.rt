@@ -1,4 +1,4 @@
-//! The payloads that entries spell.
+//! The payloads that entries encode to.
 
 ghost use Rattle.std.specs.Prelude.{◌≡◌, ◌≤◌, ◌<◌, [], Some, nat_le, length, take, IfOk, IfSome};
 ghost use Rattle.link_base.specs.Number.{bytes_of, bytes_be, bound};
@@ -20,7 +20,7 @@ use link_base::classes::peer::PEER_HEADER;
 use link_base::rows::form::{Order, Width};
 use link_base::{MAX_PAYLOAD, NLA_TYPE_MASK, VlanProtocol};
 
-/// Stores the payload that an entry of type `of_kind` spells, without elements, after the place of its header, and its
+/// Stores the payload that an entry of type `of_kind` encodes to, without elements, after the place of its header, and its
 /// padding. Returns its length. `octets` has the bytes that the entry refers to.
 ///
 /// # Errors
@@ -80,7 +80,7 @@ pub(crate) fn form_in(fields: Fields) -> u8
     }
 }
 
-/// Stores the payload that an entry of the right form spells, as [`put_payload`] does.
+/// Stores the payload that an entry of the right form encodes to, as [`put_payload`] does.
 ///
 /// # Errors
 ///

@@ -52,7 +52,7 @@ impl Document {
     pub(crate) fn hex(&mut self, bytes: &[u8]) -> Result<(), AllocError>
         ensures { OnOk result (self.new ≡ self.old ++ json_tokens (hex_json bytes.now)) }
     {
-        spell(&mut self.text, bytes)?;
+        store_hex(&mut self.text, bytes)?;
         push(&mut self.writer, &self.text)
     }
 
@@ -133,7 +133,7 @@ impl Document {
 }
 
 /// Stores bytes in hexadecimal.
-fn spell(text: &mut Vec<u8>, bytes: &[u8]) -> Result<(), AllocError>
+fn store_hex(text: &mut Vec<u8>, bytes: &[u8]) -> Result<(), AllocError>
     ensures { OnOk result (text.new.items ≡ encode_lower bytes.now) }
 {
     text.clear();

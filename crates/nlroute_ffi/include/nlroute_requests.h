@@ -288,7 +288,7 @@ static inline const struct nlroute_value *nlroute_no_values(void)
 
 /*
  * Writes a request to out, a buffer of room bytes: the head with NLM_F_REQUEST, then the attributes of the set NLROUTE_LINK
- * that the values spell, in order. Values may refer to the len bytes at octets. Returns the length of the request, a multiple
+ * that the values encode to, in order. Values may refer to the len bytes at octets. Returns the length of the request, a multiple
  * of four; the rest of out, and *at, are unchanged. Does not allocate.
  *
  * The values are those of nlroute_write(), with these differences:

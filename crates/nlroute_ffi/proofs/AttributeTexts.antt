@@ -59,7 +59,7 @@ use Rattle.nlroute_ffi.proofs.EntryTexts.{borrows_back, limits_front}
 
 -- ---- the row of an attribute type
 
--- what an entry spells, as the attribute b of a list of this table, if this is known of its type
+-- what an entry encodes to, as the attribute b of a list of this table, if this is known of its type
 pub record Told (table : Table) (b : NlaBuffer) (list : List ℕ) (label : Option Label) (e : Entry) : Type 0 where
   pub text : (s : List ℕ) (x : Content) → Shows (fields_for label) e list s → IsContent label s x → IsTextOf table b (content_text (label_or_plain label) x)
   pub has : (p : List ℕ) × (payload_of (fields_for label) e list ≡ Ok p)
@@ -72,7 +72,7 @@ unknown_back e f list p same kind flags at =
     right_form fields.Unknown e list same
     ∙ ap₂ (λ a b. cond (a && b) (passed None e list) (Err BadNumber)) low none ∙ passed_back None e list p at refl
 
--- a list spells nothing, whatever its type
+-- a list encodes to nothing, whatever its type
 list_kind : (own : Fields) (e : Entry) (k : ℕ) (octets : List ℕ) → is_list own ≡ true → payload_of own (with_kind e k) octets ≡ payload_of own e octets
 list_kind (fields.Numbers a) e k octets h = refl
 list_kind (fields.Addresses size) e k octets h = refl

@@ -9,7 +9,7 @@ use Rattle.link_base.specs.declared.wire.fault.Cause.TheVariants as causes
 use Rattle.link_base.specs.declared.wire.fault.DecodeFault.{DecodeFault}
 use Rattle.link_base.specs.declared.wire.fault.DecodeFault.TheVariants as faults
 use Rattle.link_base.specs.Number.{IsBytes, number}
-use Rattle.link_base.specs.Frame.{frame_fault, kind_of, spelled}
+use Rattle.link_base.specs.Frame.{frame_fault, kind_of, bytes_of_frames}
 use Rattle.link_base.specs.Class.{Class, Value, Extent, Exactly, AtLeast, Fixed, Multiple, AtMost, extent, length_cause, unless, meant}
 use Rattle.link_base.specs.Wire.{Reading, FaultsHere, FirstFault}
 use Rattle.link_base.specs.Table.{Shape, One, Nested, Addresses, Table, class_at, leaf_case, leaf_by, LeafGives, nested_fault, PayloadGives, single_case, GivesBy, Gives}
@@ -59,7 +59,7 @@ module _ {V : Type 0} (gives : Reading V) (P : DecodeFault → Type 0) (framed :
   here r fault bytes (inr (x, begins, given)) = valued x.kind_field x.payload fault (bytes-payload x begins.rest (subst IsBytes begins.string bytes)) given
 
   pub first_fits : (s : List ℕ) (at : ℕ) (fault : DecodeFault) → IsBytes s → FirstFault gives s at fault → P fault
-  first_fits s at fault bytes h = here h.rest fault (bytes-back (spelled h.front) h.rest (subst IsBytes h.string bytes)) h.here
+  first_fits s at fault bytes h = here h.rest fault (bytes-back (bytes_of_frames h.front) h.rest (subst IsBytes h.string bytes)) h.here
 
 -- ---- attributes
 

@@ -17,9 +17,9 @@ use Rattle.link_entries.specs.declared.misfit.Misfit.{Misfit}
 use Rattle.link_entries.specs.declared.misfit.Misfit.TheVariants.{BadElement}
 use Rattle.link_entries.specs.Fields.{number_form, array_number, ip_address, row_fields, fields_in, fields_at}
 use Rattle.link_entries.specs.Payload.{payload_of, field_of}
-use Rattle.link_entries.specs.Spelled.{alone, before, fitted, element_content, element_of, elements_of, attribute_of, entry_of, entries_of, begins_well, spelled_by}
+use Rattle.link_entries.specs.Encoded.{alone, before, fitted, element_content, element_of, elements_of, attribute_of, entry_of, entries_of, begins_well, encoded_by}
 use Rattle.link_entries.proofs.RowForms.{is_list, is_value, with_kind, value_kind, value_no_list, NoRow, OneValue, Array, AddressList, NestedList, row_says}
-use Rattle.link_entries.proofs.WrittenLists.{spells, if_held, both_true, no_content, before_ok, alone_ok, framed_ok, fitted_ok}
+use Rattle.link_entries.proofs.WrittenLists.{encodes, if_held, both_true, no_content, before_ok, alone_ok, framed_ok, fitted_ok}
 use Rattle.nlroute_ffi.specs.declared.refusal.Refusal.{Refusal}
 use Rattle.nlroute_ffi.specs.ValueText.{with_form, address_form, own_label, fields_for, payload_by, entry_payload, TextAnswers}
 use Rattle.nlroute_ffi.specs.Shown.{HasText}
@@ -114,16 +114,16 @@ module _ (family : Family) (octets : List ℕ) where
         | inr deep ↦ let (this, next) = next_held e es deep begins in (this, all_held es both.second both.is_second next)
       ]
 
-  pub written_held : (written : List ℕ) (es : List Entry) → spelled_by (table_of family) octets es ≡ Ok written → AllByRecursion (HasText family octets) es
+  pub written_held : (written : List ℕ) (es : List Entry) → encoded_by (table_of family) octets es ≡ Ok written → AllByRecursion (HasText family octets) es
   written_held written es h =
       elim (cases_Bool (begins_well es)) [
         | inl well ↦ all_held es written (sym (ap (λ b. cond b (entries_of table octets es) (Err (0, BadElement))) well) ∙ h) (Attribute well)
-        | inr ill ↦ let wrong : Err (0, BadElement) ≡ spells written = sym (ap (λ b. cond b (entries_of table octets es) (Err (0, BadElement))) ill) ∙ h in absurd cc
+        | inr ill ↦ let wrong : Err (0, BadElement) ≡ encodes written = sym (ap (λ b. cond b (entries_of table octets es) (Err (0, BadElement))) ill) ∙ h in absurd cc
       ]
 
   -- an attribute that has no text
   pub refused_held : (old new : List ℕ) (e : Entry) (es : List Entry) (refusal : Refusal) → e.depth ≡ 0 → TextAnswers e octets old new family (Err refusal)
-      → (misfit : Misfit) × (spelled_by (table_of family) octets (e ∷ es) ≡ Err (0, misfit)) × (refusal ≡ refusal_for misfit)
+      → (misfit : Misfit) × (encoded_by (table_of family) octets (e ∷ es) ≡ Err (0, misfit)) × (refusal ≡ refusal_for misfit)
   refused_held old new e es refusal top (misfit, none, is) =
       let test : (e.depth == 0) ≡ true = eq-eqb e.depth 0 top in
       let own = fields_at table e.kind in

@@ -24,7 +24,7 @@ has_numbers content = false
 abbrev pub IsTextOf : Table → NlaBuffer → List ℕ → Type 0
 IsTextOf table b words = (content : Content) × HasContent table b content × (words ≡ (if has_numbers content then [] else value_text (label_for table b) content))
 
--- an entry spells a payload, so it has a text
+-- an entry encodes to a payload, so it has a text
 abbrev pub HasText : Family → List ℕ → Entry → Type 0
 HasText family list e = (p : List ℕ) × (entry_payload family e list ≡ Ok p)
 

@@ -1,4 +1,4 @@
--- The fields of structs: of the payloads that entries spell.
+-- The fields of structs: of the payloads that entries encode to.
 use Rattle.std.specs.Prelude.{◌≡◌, ℕ, ◌+◌, Bool, true, false, List, [], ◌∷◌, map, codes, replicate, slice_get, nat_le, Option, Some, None, Result, Ok, Err}
 use Rattle.std.specs.List.{list_all}
 use Rattle.std.specs.Int.{w64, cast_unsigned}
@@ -88,7 +88,7 @@ abbrev pub fields_told : Result (Option Label) Misfit → List FieldRow
 fields_told (Ok label) = shown_fields label
 fields_told (Err misfit) = []
 
--- field i of the payload that an entry with this label spells; or the error is that of writing it
+-- field i of the payload that an entry with this label encodes to; or the error is that of writing it
 abbrev pub FieldBy : Result (Option Label) Misfit → Entry → ℕ → List ℕ → StructField → Result ℕ Refusal → Type 0
 FieldBy told e i octets new result = FieldOf (fields_told told) (payload_by told e octets) i new result
 

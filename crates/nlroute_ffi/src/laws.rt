@@ -28,7 +28,7 @@ ghost use Rattle.link_entries.specs.declared.entry.Entry.{Entry};
 ghost use Rattle.link_entries.specs.declared.misfit.Misfit.{Misfit};
 ghost use Rattle.link_entries.specs.Fields.{row_fields};
 ghost use Rattle.link_entries.specs.Payload.{form_in};
-ghost use Rattle.link_entries.specs.Spelled.{spelled_by};
+ghost use Rattle.link_entries.specs.Encoded.{encoded_by};
 ghost use Rattle.link_entries.specs.Flat.{Flat, IsElement, number_entry, address_entry};
 ghost use Rattle.netlink_packet_route.specs.declared.link.DecodeFault.{DecodeFault};
 ghost use Rattle.nlroute_ffi.specs.declared.fault.FirstError.{FirstError};
@@ -152,10 +152,10 @@ pub fn entries_have_texts()
 /// that it refuses an attribute for which `nlroute_text` returns an error, with the same error.
 pub fn texts_and_writing()
     ensures written { (family : Family) (octets written : List ℕ) (es : List Entry)
-        → spelled_by (table_of family) octets es ≡ Ok written → AllByRecursion (HasText family octets) es }
+        → encoded_by (table_of family) octets es ≡ Ok written → AllByRecursion (HasText family octets) es }
     ensures refused { (family : Family) (octets old new : List ℕ) (e : Entry) (es : List Entry) (refusal : Refusal)
         → e.depth ≡ 0 → TextAnswers e octets old new family (Err refusal)
-        → (misfit : Misfit) × (spelled_by (table_of family) octets (e ∷ es) ≡ Err (0, misfit)) × (refusal ≡ refusal_for misfit) }
+        → (misfit : Misfit) × (encoded_by (table_of family) octets (e ∷ es) ≡ Err (0, misfit)) × (refusal ≡ refusal_for misfit) }
 {}
 
 /// States that each field of a struct has the form of an attribute whose values have the field's form, and a name that is not

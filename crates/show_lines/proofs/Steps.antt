@@ -42,8 +42,8 @@ module _ {shows : Shower} where
       → EachShown shows (numbered 1 (lines ++ text ∷ [])) (out ++ written) (whole && read)
   line_more lines out n text written whole read e s h =
       let number : 1 + length lines ≡ n = omega (arith, e) in
-      let spelled = numbered_more 1 lines text ∙ ap (λ k. numbered 1 lines ++ (k, text) ∷ []) number in
-      subst (λ xs. EachShown shows xs (out ++ written) (whole && read)) (sym spelled) (each_more shows (numbered 1 lines) out (n, text) written whole read s h)
+      let lines_are = numbered_more 1 lines text ∙ ap (λ k. numbered 1 lines ++ (k, text) ∷ []) number in
+      subst (λ xs. EachShown shows xs (out ++ written) (whole && read)) (sym lines_are) (each_more shows (numbered 1 lines) out (n, text) written whole read s h)
 
   -- ---- a piece of a text
 
@@ -66,12 +66,12 @@ module _ {shows : Shower} where
   goes_over told before after piece written read solid h next text out whole s =
       let full = s.current ++ piece in
       let joined : held_of (before.1 ++ piece) ≡ held_of full = ap (λ t. held_of (t ++ piece)) s.is_held ∙ take_twice most_held s.current piece in
-      let spelled = flat_map-append line s.lines (full ∷ []) ∙ ap (λ l. flat_map line s.lines ++ l) (append-nil (line full)) in
+      let lines_are = flat_map-append line s.lines (full ∷ []) ∙ ap (λ l. flat_map line s.lines ++ l) (append-nil (line full)) in
       record {
         lines = s.lines ++ full ∷ [];
         current = [];
         cut = ap (λ t. t ++ line piece) s.cut ∙ append_assoc (flat_map line s.lines) s.current (line piece) ∙ ap (λ t. flat_map line s.lines ++ t) (sym (append_assoc s.current piece (10 ∷ [])))
-            ∙ sym (append-nil (flat_map line (s.lines ++ full ∷ [])) ∙ spelled);
+            ∙ sym (append-nil (flat_map line (s.lines ++ full ∷ [])) ∙ lines_are);
         unbroken = all_append IsUnbroken s.lines (full ∷ []) s.unbroken (all_append (λ b. b ≢ 10) s.current piece s.open_end solid, tt);
         open_end = tt;
         counted = omega (arith, ap (λ (h : ℕ × List ℕ). h.0) next, s.counted, length-append s.lines (full ∷ []));

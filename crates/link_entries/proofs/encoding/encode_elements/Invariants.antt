@@ -2,10 +2,10 @@ use Rattle.std.proofs.Common.{◌≡◌, ◌+◌, List, ℕ, length}
 use Rattle.link_base.specs.Answers.{capped}
 use Rattle.link_base.specs.Borrowed.{elements_at}
 use Rattle.link_entries.specs.Fields.{fields_at}
-use Rattle.link_entries.specs.Spelled.{elements_of}
+use Rattle.link_entries.specs.Encoded.{elements_of}
 use Rattle.link_entries.specs.Stored.{StoresAt}
-use Rattle.link_entries.proofs.Spellings.{Reached}
-use Rattle.link_entries.proofs.spelling.spell_elements.Given as goal
+use Rattle.link_entries.proofs.Encodings.{Reached}
+use Rattle.link_entries.proofs.encoding.encode_elements.Given as goal
 
 abbrev pub invariant-loop-entry : goal.invariant-loop-entry
 invariant-loop-entry g l =

@@ -2,12 +2,12 @@ use Rattle.std.proofs.Common.{◌≡◌, ◌∙◌, ◌+◌, ◌-◌, ◌++◌, 
 use Rattle.std.proofs.lemmas.List.{length-append}
 use Rattle.link_base.specs.Borrowed.{elements_at}
 use Rattle.link_entries.specs.Fields.{fields_at}
-use Rattle.link_entries.specs.Spelled.{alone, element_of, elements_of}
+use Rattle.link_entries.specs.Encoded.{alone, element_of, elements_of}
 use Rattle.link_entries.specs.Stored.{sized, StoresBytes}
-use Rattle.link_entries.proofs.Spellings.{reached_by, reached_more}
+use Rattle.link_entries.proofs.Encodings.{reached_by, reached_more}
 use Rattle.link_entries.proofs.ElementLoops.{element_next, elements_done}
-use Rattle.link_entries.proofs.StoredBytes.{sized_ok, sized_err, stored_more, part_length, spells_all, spells_error}
-use Rattle.link_entries.proofs.spelling.spell_elements.Goals as goal
+use Rattle.link_entries.proofs.StoredBytes.{sized_ok, sized_err, stored_more, part_length, encodes_all, encodes_error}
+use Rattle.link_entries.proofs.encoding.encode_elements.Goals as goal
 
 pub loop-entry-preserved : goal.loop-entry-preserved
 loop-entry-preserved g c =
@@ -17,7 +17,7 @@ loop-entry-preserved g c =
     let octets = c.args.octets.now in
     let room = c.loop-entry.room in
     let from = c.min-from.result in
-    let sub = c.spell_element.new.room in
+    let sub = c.encode_element.new.room in
     let (text, i, count, size, stored, reached) = c.loop-entry.invariant in
     let e = c.in-Some.entry.now in
     let es = c.in-Some.others.now in
@@ -36,15 +36,15 @@ loop-entry-preserved g c =
       reached_more all others text x i _ next (ap alone is),
     )
 
-pub returns-in-Err-clause-spells : goal.returns-in-Err-clause-spells
-returns-in-Err-clause-spells g c =
+pub returns-in-Err-clause-encodes : goal.returns-in-Err-clause-encodes
+returns-in-Err-clause-encodes g c =
     let k = c.args.kind in
     let table = elements_at g.F.Meaning.table k in
     let list = fields_at g.F.Meaning.table k in
     let octets = c.args.octets.now in
     let room = c.loop-entry.room in
     let from = c.min-from.result in
-    let sub = c.spell_element.new.room in
+    let sub = c.encode_element.new.room in
     let (text, i, count, size, stored, reached) = c.loop-entry.invariant in
     let e = c.in-Some.entry.now in
     let es = c.in-Some.others.now in
@@ -54,15 +54,15 @@ returns-in-Err-clause-spells g c =
     let own : element_of table c.fields_of-own.result k _ e octets ≡ element_of table list k i e octets = (λ j. element_of table (c.fields_of-own.ensures.value j) k (place j) e octets) in
     let bad = sized_err (element_of table list k i e octets) c.in-Err.misfit (c.in-Err.ensures.size ∙ ap sized own) in
     let same = subst (λ r. StoresBytes r (take (length room - from) (drop from room)) sub) (own ∙ bad) c.in-Err.ensures.stored in
-    spells_error all (elements_of table list k octets (i + 1) es) text i c.args.room.now _ _ 0 c.in-Err.misfit _ next (ap alone bad) (omega (arith, count))
+    encodes_error all (elements_of table list k octets (i + 1) es) text i c.args.room.now _ _ 0 c.in-Err.misfit _ next (ap alone bad) (omega (arith, count))
     (part_length from room sub _ (omega (arith, c.min-from.ensures)) same refl ∙ stored.same)
 
-pub returns-then-entry-eq0-clause-spells : goal.returns-then-entry-eq0-clause-spells
-returns-then-entry-eq0-clause-spells g c =
+pub returns-then-entry-eq0-clause-encodes : goal.returns-then-entry-eq0-clause-encodes
+returns-then-entry-eq0-clause-encodes g c =
     let k = c.args.kind in
     let table = elements_at g.F.Meaning.table k in
     let list = fields_at g.F.Meaning.table k in
     let octets = c.args.octets.now in
     let (text, i, count, size, stored, reached) = c.loop-entry.invariant in
     let done = ap (elements_of table list k octets i) c.in-Some.ensures.cases.0 ∙ elements_done table octets c.in-Some.entry.now c.in-Some.others.now list k i c.if-entry-eq0.true in
-    spells_all (elements_of table list k octets 0 c.args.entries.now) _ text i c.args.room.now c.loop-entry.room c.loop-entry.len reached done size stored
+    encodes_all (elements_of table list k octets 0 c.args.entries.now) _ text i c.args.room.now c.loop-entry.room c.loop-entry.len reached done size stored

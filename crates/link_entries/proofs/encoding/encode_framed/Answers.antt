@@ -1,6 +1,6 @@
 use Rattle.link_entries.specs.Payload.{payload_of}
 use Rattle.link_entries.proofs.StoredBytes.{framed_err, framed_unstored, framed_stored}
-use Rattle.link_entries.proofs.spelling.spell_framed.Goals as goal
+use Rattle.link_entries.proofs.encoding.encode_framed.Goals as goal
 
 pub returns-in-Ok-clause-stored : goal.returns-in-Ok-clause-stored
 returns-in-Ok-clause-stored c =

@@ -1,9 +1,9 @@
 use Rattle.std.proofs.Common.{◌≡◌, ◌+◌, List, ℕ, length}
 use Rattle.link_base.specs.Answers.{capped}
-use Rattle.link_entries.specs.Spelled.{entries_of}
+use Rattle.link_entries.specs.Encoded.{entries_of}
 use Rattle.link_entries.specs.Stored.{StoresAt}
-use Rattle.link_entries.proofs.Spellings.{Reached}
-use Rattle.link_entries.proofs.spelling.spell_list.Given as goal
+use Rattle.link_entries.proofs.Encodings.{Reached}
+use Rattle.link_entries.proofs.encoding.encode_list.Given as goal
 
 abbrev pub invariant-loop-entry : goal.invariant-loop-entry
 invariant-loop-entry g l =

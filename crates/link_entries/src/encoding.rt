@@ -1,4 +1,4 @@
-//! Attributes and elements that entries spell.
+//! Attributes and elements that entries encode to.
 
 ghost use Rattle.std.specs.Prelude.{◌≡◌, ◌<◌, ◌+◌, ◌%◌, [], Ok, length, IfErr};
 ghost use Rattle.link_base.specs.Borrowed.{elements_at, table_within};
@@ -7,8 +7,8 @@ ghost use Rattle.link_base.specs.declared.rows.form.Order.TheVariants.{Little};
 ghost use Rattle.link_entries.specs.Forms.{form_unsigned};
 ghost use Rattle.link_entries.specs.Fields.{any_number, array_number, fields_at, IsNarrow};
 ghost use Rattle.link_entries.specs.Payload.{payload_of, field_of};
-ghost use Rattle.link_entries.specs.Spelled.{attribute_of, before, begins_well, element_of, elements_of, entries_of, fitted, framed};
-ghost use Rattle.link_entries.specs.Stored.{sized, StoresBytes, Spells};
+ghost use Rattle.link_entries.specs.Encoded.{attribute_of, before, begins_well, element_of, elements_of, entries_of, fitted, framed};
+ghost use Rattle.link_entries.specs.Stored.{sized, StoresBytes, Encodes};
 
 use crate::entry::Entry;
 use crate::fields::{Fields, fields_in, ip_address};
@@ -20,38 +20,38 @@ use link_base::rows::form::{ArrayOf, Width};
 use link_base::{Attribute, MAX_PAYLOAD};
 use netlink_packet_route::{Family, by_family};
 
-/// Stores the list that entries spell at the start of `out`, if there is room. Returns its length; saturates at
+/// Stores the list of these entries at the start of `out`, if there is room. Returns its length; saturates at
 /// `usize::MAX`.
 ///
 /// # Errors
 ///
 /// The first entry that cannot be written.
-pub(crate) fn spell(
+pub(crate) fn encode(
     family: Family,
     entries: &[Entry],
     octets: &[u8],
     out: &mut [u8],
 ) -> Result<usize, MisfitAt>
-    ensures { Spells (entries_of (table_of family) octets.now entries.now) out.old out.new result }
+    ensures { Encodes (entries_of (table_of family) octets.now entries.now) out.old out.new result }
 {
-    by_family!(family, spell_list(entries, octets, out))
+    by_family!(family, encode_list(entries, octets, out))
 }
 
-/// Stores a list of attributes of the type `F`, as [`spell`] does for a `Family`.
+/// Stores a list of attributes of the type `F`, as [`encode`] does for a `Family`.
 #[inline(never)]
-fn spell_list<F: Attribute>(
+fn encode_list<F: Attribute>(
     entries: &[Entry],
     octets: &[u8],
     out: &mut [u8],
 ) -> Result<usize, MisfitAt>
-    ensures { Spells (entries_of F.table octets.now entries.now) out.old out.new result }
+    ensures { Encodes (entries_of F.table octets.now entries.now) out.old out.new result }
 {
     let mut rest = entries;
     let mut len = 0usize;
     while let Some((entry, others)) = rest.split_first() {
         if entry.depth == 0 {
             let from = len.min(out.len());
-            match spell_attribute::<F>(entry, others, octets, &mut out[from..]) {
+            match encode_attribute::<F>(entry, others, octets, &mut out[from..]) {
                 Ok(size) => len = len.saturating_add(size),
                 Err(first) => {
                     return Err(MisfitAt {
@@ -66,19 +66,19 @@ fn spell_list<F: Attribute>(
     Ok(len)
 }
 
-/// Stores the attribute that an entry spells, with the elements in the entries after it. Returns its length.
+/// Stores the attribute that an entry encodes to, with the elements in the entries after it. Returns its length.
 ///
 /// # Errors
 ///
 /// The first entry that cannot be written; the index of `entry` is 0.
 #[inline(always)]
-fn spell_attribute<F: Attribute>(
+fn encode_attribute<F: Attribute>(
     entry: &Entry,
     others: &[Entry],
     octets: &[u8],
     room: &mut [u8],
 ) -> Result<usize, MisfitAt>
-    ensures spells { Spells (attribute_of F.table octets.now entry.now others.now) room.old room.new result }
+    ensures encodes { Encodes (attribute_of F.table octets.now entry.now others.now) room.old room.new result }
     ensures index { IfErr result (λ e. e.index < 1 + length others.now) }
 {
     let kind = entry.kind;
@@ -91,7 +91,7 @@ fn spell_attribute<F: Attribute>(
     if begins_well(others) {
         return Ok(store_header(room, kind_field, size));
     }
-    spell_list_attribute::<F>(kind, kind_field, others, octets, room)
+    encode_list_attribute::<F>(kind, kind_field, others, octets, room)
 }
 
 /// Stores an attribute with the elements in the entries after it. Returns its length.
@@ -100,20 +100,20 @@ fn spell_attribute<F: Attribute>(
 ///
 /// The first entry that cannot be written; the index of that of the attribute is 0.
 #[inline(never)]
-fn spell_list_attribute<F: Attribute>(
+fn encode_list_attribute<F: Attribute>(
     kind: u16,
     kind_field: u16,
     others: &[Entry],
     octets: &[u8],
     room: &mut [u8],
 ) -> Result<usize, MisfitAt>
-    ensures spells { Spells (fitted kind_field (before (Ok [])
+    ensures encodes { Encodes (fitted kind_field (before (Ok [])
         (elements_of (elements_at F.table kind) (fields_at F.table kind) kind octets.now 0 others.now)))
         room.old room.new result }
     ensures index { IfErr result (λ e. e.index < 1 + length others.now) }
 {
     let from = room.len().min(4);
-    let size = match spell_elements::<F>(kind, others, octets, &mut room[from..]) {
+    let size = match encode_elements::<F>(kind, others, octets, &mut room[from..]) {
         Ok(size) => size,
         Err(first) => {
             return Err(MisfitAt {
@@ -139,13 +139,13 @@ fn spell_list_attribute<F: Attribute>(
 ///
 /// The first entry that cannot be written.
 #[inline(always)]
-fn spell_elements<F: Attribute>(
+fn encode_elements<F: Attribute>(
     kind: u16,
     entries: &[Entry],
     octets: &[u8],
     room: &mut [u8],
 ) -> Result<usize, MisfitAt>
-    ensures spells { Spells (elements_of (elements_at F.table kind) (fields_at F.table kind) kind octets.now 0 entries.now)
+    ensures encodes { Encodes (elements_of (elements_at F.table kind) (fields_at F.table kind) kind octets.now 0 entries.now)
         room.old room.new result }
     ensures index { IfErr result (λ e. e.index < length entries.now) }
 {
@@ -158,7 +158,7 @@ fn spell_elements<F: Attribute>(
         }
         let index = entries.len() - rest.len();
         let from = len.min(room.len());
-        match spell_element::<F>(own, kind, index, entry, octets, &mut room[from..]) {
+        match encode_element::<F>(own, kind, index, entry, octets, &mut room[from..]) {
             Ok(size) => len = len.saturating_add(size),
             Err(misfit) => return Err(MisfitAt { index, misfit }),
         }
@@ -167,13 +167,13 @@ fn spell_elements<F: Attribute>(
     Ok(len)
 }
 
-/// Stores the element that entry `i` spells in an attribute of type `kind` with these fields. Returns its length.
+/// Stores the element of entry `i` in an attribute of type `kind` with these fields. Returns its length.
 ///
 /// # Errors
 ///
 /// Why it cannot be written.
 #[inline(always)]
-fn spell_element<F: Attribute>(
+fn encode_element<F: Attribute>(
     own: Fields,
     kind: u16,
     i: usize,
@@ -188,8 +188,8 @@ fn spell_element<F: Attribute>(
         return Err(Misfit::BadElement);
     }
     match own {
-        Fields::Numbers { of } => spell_number(of, entry, room),
-        Fields::Addresses { size } => spell_framed(
+        Fields::Numbers { of } => encode_number(of, entry, room),
+        Fields::Addresses { size } => encode_framed(
             ip_address(size),
             kind,
             (i % 65536) as u16,
@@ -200,7 +200,7 @@ fn spell_element<F: Attribute>(
         Fields::List { .. } => {
             let inner = entry.inner;
             let fields = fields_of::<F>(Some(kind), inner);
-            spell_framed(
+            encode_framed(
                 fields,
                 inner,
                 field_of(fields, inner, entry),
@@ -213,27 +213,27 @@ fn spell_element<F: Attribute>(
     }
 }
 
-/// Stores the number that an entry spells in an array. Returns its length.
+/// Stores the number of an entry in an array. Returns its length.
 ///
 /// # Errors
 ///
 /// `BadForm` if the entry has not the form of the array's numbers, `BadNumber` if they are too narrow.
 #[inline(always)]
-pub fn spell_number(of: ArrayOf, entry: &Entry, room: &mut [u8]) -> Result<usize, Misfit>
+pub fn encode_number(of: ArrayOf, entry: &Entry, room: &mut [u8]) -> Result<usize, Misfit>
     ensures size { result ≡ sized (payload_of (array_number of) entry.now []) }
     ensures stored { StoresBytes (payload_of (array_number of) entry.now []) room.old room.new }
 {
     match of {
-        ArrayOf::U16 => spell_unsigned(Width::Two, entry, room),
-        ArrayOf::U32 => spell_unsigned(Width::Four, entry, room),
-        ArrayOf::U64 => spell_unsigned(Width::Eight, entry, room),
-        ArrayOf::I32 => spell_signed(entry, room),
+        ArrayOf::U16 => encode_unsigned(Width::Two, entry, room),
+        ArrayOf::U32 => encode_unsigned(Width::Four, entry, room),
+        ArrayOf::U64 => encode_unsigned(Width::Eight, entry, room),
+        ArrayOf::I32 => encode_signed(entry, room),
     }
 }
 
-/// Stores the unsigned number of this width that an entry spells, as [`spell_number`] does.
+/// Stores the unsigned number of this width that an entry encodes to, as [`encode_number`] does.
 #[inline(always)]
-fn spell_unsigned(width: Width, entry: &Entry, room: &mut [u8]) -> Result<usize, Misfit>
+fn encode_unsigned(width: Width, entry: &Entry, room: &mut [u8]) -> Result<usize, Misfit>
     ensures size { result ≡ sized (payload_of (any_number form_unsigned width Little) entry.now []) }
     ensures stored { StoresBytes (payload_of (any_number form_unsigned width Little) entry.now []) room.old room.new }
 {
@@ -253,9 +253,9 @@ fn spell_unsigned(width: Width, entry: &Entry, room: &mut [u8]) -> Result<usize,
     Ok(width.size())
 }
 
-/// Stores the signed number that an entry spells, as [`spell_number`] does.
+/// Stores the signed number that an entry encodes to, as [`encode_number`] does.
 #[inline(always)]
-fn spell_signed(entry: &Entry, room: &mut [u8]) -> Result<usize, Misfit>
+fn encode_signed(entry: &Entry, room: &mut [u8]) -> Result<usize, Misfit>
     ensures size { result ≡ sized (payload_of Fields.Signed entry.now []) }
     ensures stored { StoresBytes (payload_of Fields.Signed entry.now []) room.old room.new }
 {
@@ -270,13 +270,13 @@ fn spell_signed(entry: &Entry, room: &mut [u8]) -> Result<usize, Misfit>
     Ok(4)
 }
 
-/// Stores the attribute of type `of_kind` that an entry spells, without elements. Returns its length.
+/// Stores the attribute of type `of_kind` that an entry encodes to, without elements. Returns its length.
 ///
 /// # Errors
 ///
 /// Why the entry cannot be written.
 #[inline(always)]
-fn spell_framed(
+fn encode_framed(
     own: Fields,
     of_kind: u16,
     kind_field: u16,

@@ -1,10 +1,10 @@
 use Rattle.std.proofs.Common.{◌∙◌, ◌+◌, ◌-◌, ◌++◌, length, take, drop, refl, ap, arith}
 use Rattle.std.proofs.lemmas.List.{length-append}
-use Rattle.link_entries.specs.Spelled.{attribute_of, entries_of}
-use Rattle.link_entries.proofs.Spellings.{reached_by, reached_more, reached_skip}
+use Rattle.link_entries.specs.Encoded.{attribute_of, entries_of}
+use Rattle.link_entries.proofs.Encodings.{reached_by, reached_more, reached_skip}
 use Rattle.link_entries.proofs.ElementLoops.{entry_here, entry_skipped}
-use Rattle.link_entries.proofs.StoredBytes.{spells_ok, spells_err, stored_more, part_length, spells_error}
-use Rattle.link_entries.proofs.spelling.spell_list.Goals as goal
+use Rattle.link_entries.proofs.StoredBytes.{encodes_ok, encodes_err, stored_more, part_length, encodes_error}
+use Rattle.link_entries.proofs.encoding.encode_list.Goals as goal
 
 pub loop-entry-preserved-in-Ok : goal.loop-entry-preserved-in-Ok
 loop-entry-preserved-in-Ok g c =
@@ -17,8 +17,8 @@ loop-entry-preserved-in-Ok g c =
     let all = entries_of table octets c.args.entries.now in
     let next = reached_by all _ _ text i reached (ap (entries_of table octets) c.in-Some.ensures.cases.0) in
     let from = c.min-from.result in
-    let sub = c.spell_attribute.new.room in
-    let (x, is, n, placed) = spells_ok (attribute_of table octets e es) (take (length out - from) (drop from out)) sub c.in-Ok.size c.in-Ok.ensures.spells in (
+    let sub = c.encode_attribute.new.room in
+    let (x, is, n, placed) = encodes_ok (attribute_of table octets e es) (take (length out - from) (drop from out)) sub c.in-Ok.size c.in-Ok.ensures.encodes in (
       text ++ x,
       i + 1,
       omega (arith, count, c.in-Some.ensures.cases.1),
@@ -48,8 +48,8 @@ returns-in-Err g c =
     let all = entries_of table octets c.args.entries.now in
     let next = reached_by all _ _ text i reached (ap (entries_of table octets) c.in-Some.ensures.cases.0) in
     let from = c.min-from.result in
-    let sub = c.spell_attribute.new.room in
+    let sub = c.encode_attribute.new.room in
     let first = c.in-Err.first in
-    let (bad, same) = spells_err (attribute_of table octets e es) (take (length out - from) (drop from out)) sub first c.in-Err.ensures.spells in
-    spells_error all (entries_of table octets es) text i c.args.out.now _ _ first.index first.misfit _ next (entry_here table octets e es c.if-entry-eq0.true ∙ bad) (omega (arith, count))
+    let (bad, same) = encodes_err (attribute_of table octets e es) (take (length out - from) (drop from out)) sub first c.in-Err.ensures.encodes in
+    encodes_error all (entries_of table octets es) text i c.args.out.now _ _ first.index first.misfit _ next (entry_here table octets e es c.if-entry-eq0.true ∙ bad) (omega (arith, count))
     (part_length from out sub _ (omega (arith, c.min-from.ensures)) same refl ∙ stored.same)
