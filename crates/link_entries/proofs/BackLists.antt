@@ -23,13 +23,13 @@ use Rattle.link_entries.specs.declared.entry.Entry.{Entry}
 use Rattle.link_entries.specs.Entry.{blank}
 use Rattle.link_entries.specs.Flat.{Elements, head_entry, IsGroup, Flat}
 use Rattle.link_entries.proofs.EntryFields.{keeps_filled, AreBelow, elements_below}
-use Rattle.link_entries.proofs.Shapes.{ElementsBy, elements_told}
+use Rattle.link_entries.proofs.Shapes.{ElementsBy, elements_by_form}
 use Rattle.link_entries.specs.declared.fields.Fields.{Fields}
 use Rattle.link_entries.specs.declared.fields.Fields.TheVariants as fields
 use Rattle.link_entries.specs.Fields.{row_fields, fields_in, fields_at}
 use Rattle.link_entries.specs.Payload.{payload_of, field_of}
 use Rattle.link_entries.specs.Encoded.{alone, before, fitted, elements_of, attribute_of, begins_well, entries_of, encoded_by}
-use Rattle.link_entries.proofs.RowForms.{is_list, value_no_list, with_kind, RowTold, NoRow, OneValue, Array, AddressList, NestedList, row_says, element_no_list}
+use Rattle.link_entries.proofs.RowForms.{is_list, value_no_list, with_kind, RowCase, NoRow, OneValue, Array, AddressList, NestedList, row_says, element_no_list}
 use Rattle.link_entries.proofs.Encodings.{fitted_all}
 use Rattle.link_entries.proofs.BackValues.{StandsAt}
 use Rattle.link_entries.proofs.BackSingles.{none_below, value_read, list_back, single_back}
@@ -81,8 +81,8 @@ module _ (table : Table) (formed : is_table table ≡ true) (list : List ℕ) (x
   head_kind : head.kind ≡ k
   head_kind = (keeps_filled f content (length es) bare).kind
 
-  told : (o : Option Shape) (form : Option Form) → class_at table k ≡ o → form_at table k ≡ form → ElementsBy table k (x.0 + 4) o p form es
-  told = elements_told table x.1 content has (x.0 + 4) es below k p refl refl
+  stated : (o : Option Shape) (form : Option Form) → class_at table k ≡ o → form_at table k ≡ form → ElementsBy table k (x.0 + 4) o p form es
+  stated = elements_by_form table x.1 content has (x.0 + 4) es below k p refl refl
 
   -- no list
   single : is_list (fields_at table k) ≡ false → Goal
@@ -99,14 +99,14 @@ module _ (table : Table) (formed : is_table table ≡ true) (list : List ℕ) (x
   listed own t w nothing looked field elements is value =
       attribute_parts table own k list head (es ++ rest) [] t v looked head_kind (field ∙ ap written_kind (sym value)) nothing elements (is ∙ ap written_payload (sym value)) fits
 
-  by_row : RowTold table k → Goal
+  by_row : RowCase table k → Goal
   by_row (NoRow named class) = single (ap (λ o. is_list (fields_in o)) named)
   by_row (OneValue form names named class one low) = single (ap (λ o. is_list (fields_in o)) named ∙ value_no_list (row_fields form) one)
   by_row (Array a named class low) =
       let c = Many (size_in a) in
       let own = fields.Numbers a in
       let was = value_read c k p v (subst (λ o. GivesBy o f p (Ok v)) class given) in
-      let is = told (Some (One c)) (Some (forms.Numbers a)) class named in
+      let is = stated (Some (One c)) (Some (forms.Numbers a)) class named in
       let none : k ≡ k + 0 = omega arith in
       listed own p (Case k _) (list_back table x.1 content has (length es) bare (forms.Numbers a) list named refl) (ap fields_in named) none
       (ap (λ l. elements_of (elements_at table k) own k list 0 (l ++ rest)) is ∙ array_encoded (elements_at table k) a k (x.0 + 4) p list rest bytes end (multiple (size_in a) (length p) was.accepted))
@@ -114,7 +114,7 @@ module _ (table : Table) (formed : is_table table ≡ true) (list : List ℕ) (x
   by_row (AddressList n named class few low) = by_given (subst (λ o. GivesBy o f p (Ok v)) class given) where
     by_given : GivesBy (Some (Addresses n)) f p (Ok v) → Goal
     by_given (Ok vs, wire, value) =
-        let (items, walk, is) = told (Some (Addresses n)) (Some (forms.Addresses n)) class named in
+        let (items, walk, is) = stated (Some (Addresses n)) (Some (forms.Addresses n)) class named in
         let payloads = payloads_read (length p) p items walk.rest vs walk.walks walk.end wire in
         let w = Case k (Listed (of_length n vs)) in
         let none : k ≡ k + 0 = omega arith in
@@ -126,7 +126,7 @@ module _ (table : Table) (formed : is_table table ≡ true) (list : List ℕ) (x
   by_row (NestedList flagged rows named class low) = by_given (subst (λ o. GivesBy o f p (Ok v)) class given) where
     by_given : GivesBy (Some (Nested flagged rows)) f p (Ok v) → Goal
     by_given (Ok vs, wire, value) =
-        let (items, walk, each) = told (Some (Nested flagged rows)) (Some (forms.List flagged)) class named in
+        let (items, walk, each) = stated (Some (Nested flagged rows)) (Some (forms.List flagged)) class named in
         let flag = nested_flag flagged in
         let w = Case k (Inner flagged vs) in
         listed (fields.List flag) (written_list (map lift vs)) w (list_back table x.1 content has (length es) bare (forms.List flagged) list named refl) (ap fields_in named) refl

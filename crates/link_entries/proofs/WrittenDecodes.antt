@@ -15,7 +15,7 @@ use Rattle.link_entries.specs.declared.fields.Fields.TheVariants as fields
 use Rattle.link_entries.specs.Fields.{array_number, ip_address, fields_in, fields_at, row_fields}
 use Rattle.link_entries.specs.Payload.{payload_of, field_of}
 use Rattle.link_entries.specs.Encoded.{element_content, elements_of, attribute_of, entry_of, entries_of, begins_well, encoded_by}
-use Rattle.link_entries.proofs.RowForms.{is_list, with_kind, field_kind, NoRow, OneValue, Array, AddressList, NestedList, row_says, value_no_list, RowTold, element_no_list}
+use Rattle.link_entries.proofs.RowForms.{is_list, with_kind, field_kind, NoRow, OneValue, Array, AddressList, NestedList, row_says, value_no_list, RowCase, element_no_list}
 use Rattle.link_entries.proofs.Encodings.{frame_low}
 use Rattle.link_entries.proofs.WrittenLists.{if_held, same_encodings, framed_ok, wire_none, wire_more, before_ok}
 use Rattle.link_entries.proofs.EntryFields.{AreBelow}
@@ -151,7 +151,7 @@ module _ (table : Table) (formed : is_table table ≡ true) (octets : List ℕ) 
   given_by : (o : Option Shape) (v : AttrValue) → class_at table k ≡ o → GivesBy o (g % 65536) p (Ok v) → IsAttribute table s
   given_by o v class given = of_value table g p s v w.short w.text (subst (λ q. GivesBy q (g % 65536) p (Ok v)) (sym (ap (class_at table) kind ∙ class)) given)
 
-  by_row : RowTold table k → IsAttribute table s
+  by_row : RowCase table k → IsAttribute table s
   by_row (NoRow named class) = single (ap (λ o. is_list (fields_in o)) named)
   by_row (OneValue form names named class one low) = single (ap (λ o. is_list (fields_in o)) named ∙ value_no_list (row_fields form) one)
   by_row (Array a named class low) =

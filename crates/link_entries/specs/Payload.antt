@@ -119,6 +119,6 @@ field_of own k e = k
 -- ---- as functions return them
 
 -- the bytes that an entry refers to
-abbrev pub slice_told : Result (Bor (List ℕ)) Misfit → Result (List ℕ) Misfit
-slice_told (Ok p) = Ok p.now
-slice_told (Err misfit) = Err misfit
+abbrev pub slice_value : Result (Bor (List ℕ)) Misfit → Result (List ℕ) Misfit
+slice_value (Ok p) = Ok p.now
+slice_value (Err misfit) = Err misfit

@@ -176,5 +176,5 @@ module _ {W Y : Type 0} (adds : W → W → List Y → Type 0) (d : Display Y) (
         subst (ItemsTo next old new) (and_false whole)
         (Going (shown_more (LeadTo list.1 next) (length list.1 - length rest, b) (d.error level family at fault) old mid new whole false (more old mid new) (lead_on list.1 rest next b split) h failed written))
     fault_more rest next old mid new whole at fault (Going h) some place (inr (c, bad, is, empty)) written =
-        let told = subst (λ i. adds mid new (d.error level family i (faults.Frame c))) place (subst (λ f. adds mid new (d.error level family at f)) is written) in
-        Broken empty (rw and_false at (items_end rest old mid new whole (Some (length list.1 - length rest, c)) h (some, refl, bad) told))
+        let reported = subst (λ i. adds mid new (d.error level family i (faults.Frame c))) place (subst (λ f. adds mid new (d.error level family at f)) is written) in
+        Broken empty (rw and_false at (items_end rest old mid new whole (Some (length list.1 - length rest, c)) h (some, refl, bad) reported))

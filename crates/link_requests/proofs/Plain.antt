@@ -35,16 +35,16 @@ use Rattle.link_requests.proofs.Following.{scope_passed}
 
 -- ---- results
 
-abbrev payload_told : List ℕ → Result (List ℕ) Misfit
-payload_told q = Ok q
+abbrev payload_is : List ℕ → Result (List ℕ) Misfit
+payload_is q = Ok q
 
 abbrev encoding_ok : List ℕ → Encoding
 encoding_ok t = Ok t
 
-told_same : (p t : List ℕ) → encoding_ok p ≡ encoding_ok t → p ≡ t
-told_same p t e = cc
+ok_same : (p t : List ℕ) → encoding_ok p ≡ encoding_ok t → p ≡ t
+ok_same p t e = cc
 
-payload_same : (p q : List ℕ) → payload_told p ≡ payload_told q → p ≡ q
+payload_same : (p q : List ℕ) → payload_is p ≡ payload_is q → p ≡ q
 payload_same p q e = cc
 
 -- ---- payloads
@@ -93,7 +93,7 @@ sub_none scope reader form e other = scope_passed scope reader form e ∙ ap (λ
 
 held_alone : (reader : Option Family) (follow : Bool) (e : Entry) (octets q : List ℕ) → (e.offset == inline) ≡ false → held_payload reader follow e octets ≡ Ok q → follow ≡ false
 held_alone reader true e octets q lent h =
-    let bad : Err BadDepth ≡ payload_told q = sym (ap (λ b. cond b (announced reader) (Err BadDepth)) lent) ∙ h in absurd cc
+    let bad : Err BadDepth ≡ payload_is q = sym (ap (λ b. cond b (announced reader) (Err BadDepth)) lent) ∙ h in absurd cc
 held_alone reader false e octets q lent h = refl
 
 -- values follow only a list
@@ -109,7 +109,7 @@ module _ (scope : Scope) (reader : Option Family) (follow : Bool) (e : Entry) (o
 follow_none : (depth : ℕ) (sub : Option Scope) (inner : Scope → Encoding) (es : List Entry) (follow : Bool) (t : List ℕ) → (follow ≡ false) ⊎ (sub ≡ None) → cond follow (inside_of (depth + 1) sub inner es) (Ok []) ≡ Ok t → (follow ≡ false) × (t ≡ [])
 follow_none depth sub inner es true t (inl bad) h = absurd cc
 follow_none depth sub inner es true t (inr none) h = let bad : Err (0, BadDepth) ≡ encoding_ok t = sym (ap (λ s. inside_of (depth + 1) s inner es) none) ∙ h in absurd cc
-follow_none depth sub inner es false t either h = (refl, let same : encoding_ok [] ≡ encoding_ok t = h in sym (told_same [] t same))
+follow_none depth sub inner es false t either h = (refl, let same : encoding_ok [] ≡ encoding_ok t = h in sym (ok_same [] t same))
 
 -- ---- one element
 
@@ -184,7 +184,7 @@ module _ (octets : List ℕ) (set : Family) (k depth : ℕ) (x : Kinds) (i : ℕ
 
       ended : (follow : Bool) (t : List ℕ) → cond follow (Err (0, BadDepth)) (Ok []) ≡ encoding_ok t → (follow ≡ false) × (t ≡ [])
       ended true t is = absurd cc
-      ended false t is = (refl, sym (told_same [] t is))
+      ended false t is = (refl, sym (ok_same [] t is))
 
       by : (b : Bool) → e.kind == k ≡ b → value_by (cond b (Some (array_number n)) None) octets (Numbers n k) (depth + 1) x i e es (inner_of octets (depth + 1) x es) ≡ Ok a
           → (is_above (depth + 1) es ≡ false) × (encoded.element_of (elements_at (table_of set) k) (fields.Numbers n) k i below octets ≡ Ok a)
@@ -219,11 +219,11 @@ module _ (octets : List ℕ) (set : Family) (k depth : ℕ) (x : Kinds) (family 
 
   elements_same : (i : ℕ) (es : List Entry) (t : List ℕ) → is_above (depth + 1) es ≡ false → AllByRecursion (IsPlain set family) (list_at depth es) → values_of octets scope (depth + 1) x i es ≡ Ok t
       → encoded.elements_of table list k octets i (list_at depth es) ≡ Ok t
-  elements_same i [] t near plain h = ap Ok (told_same [] t h)
+  elements_same i [] t near plain h = ap Ok (ok_same [] t h)
   elements_same i (e ∷ es) t near plain h = elim (cases_Bool (nat_lt e.depth (depth + 1))) [
     | inl low ↦
         let ends : encoding_ok [] ≡ encoding_ok t = sym (ap (λ b. cond b (Ok []) (before (cond (e.depth == depth + 1) (value_of octets scope (depth + 1) x i e es (inner_of octets (depth + 1) x es)) (Ok [])) (values_of octets scope (depth + 1) x (i + 1) es))) low) ∙ h in
-        elements_end table list k depth octets i e es low ∙ ap Ok (told_same [] t ends)
+        elements_end table list k depth octets i e es low ∙ ap Ok (ok_same [] t ends)
     | inr deep ↦
         let place = first_deep depth e deep near in
         let here = value_of octets scope (depth + 1) x i e es (inner_of octets (depth + 1) x es) in
@@ -288,7 +288,7 @@ module _ (octets : List ℕ) (set : Family) (depth : ℕ) (x : Kinds) (e : Entry
   below_same : (reader : Option Family) (own : Fields) (q t : List ℕ) (follow : Bool) → is_above depth es ≡ follow → value_payload (Attributes set) reader own follow e octets ≡ Ok q
       → cond follow (inside_of (depth + 1) (scope_below (Attributes set) reader own e) inner es) (Ok []) ≡ Ok t → encoded.elements_of (elements_at attributes e.kind) own e.kind octets 0 (list_at depth es) ≡ Ok t
   below_same reader own q t true above value h = inside_same reader own q t value h
-  below_same reader own q t false above value h = none_below (elements_at attributes e.kind) own e.kind depth octets es above ∙ ap Ok (told_same [] t h)
+  below_same reader own q t false above value h = none_below (elements_at attributes e.kind) own e.kind depth octets es above ∙ ap Ok (ok_same [] t h)
 
   pub attribute_same : (i : ℕ) (a : List ℕ) → is_protinfo set x.address_family e ≡ false → value_of octets (Attributes set) depth x i e es inner ≡ Ok a → encoded.attribute_of attributes octets (lowered depth e) (list_at depth es) ≡ Ok a
   attribute_same i a row h =
@@ -324,18 +324,18 @@ module _ (octets : List ℕ) (set : Family) (depth : ℕ) (x : Kinds) where
     | inr deep ↦
         let off : e.depth - depth ≢ 0 = λ z. eqb-false e.depth depth deep (omega (arith, z, ltb-false e.depth depth low)) in
         let none : encoding_ok [] ≡ encoding_ok a = sym (ap (λ b. cond b (value_of octets (Attributes set) depth x i e es (inner_of octets depth x es)) (Ok [])) deep) ∙ h in
-        ap (λ b. cond b (encoded.attribute_of (table_of set) octets (lowered depth e) (list_at depth es)) (Ok [])) (ne_eqb (e.depth - depth) 0 off) ∙ ap Ok (told_same [] a none)
+        ap (λ b. cond b (encoded.attribute_of (table_of set) octets (lowered depth e) (list_at depth es)) (Ok [])) (ne_eqb (e.depth - depth) 0 off) ∙ ap Ok (ok_same [] a none)
   ]
 
   entries_same : (i : ℕ) (es : List Entry) (s : List ℕ) → AllByRecursion (IsPlain set x.address_family) (list_at depth es) → values_of octets (Attributes set) depth x i es ≡ Ok s → encoded.entries_of (table_of set) octets (list_at depth es) ≡ Ok s
-  entries_same i [] s plain h = ap Ok (told_same [] s h)
+  entries_same i [] s plain h = ap Ok (ok_same [] s h)
   entries_same i (e ∷ es) s plain h =
       let here = cond (e.depth == depth) (value_of octets (Attributes set) depth x i e es (inner_of octets depth x es)) (Ok []) in
       let rest = values_of octets (Attributes set) depth x (i + 1) es in
       elim (cases_Bool (nat_lt e.depth depth)) [
         | inl low ↦
             let ends : encoding_ok [] ≡ encoding_ok s = sym (ap (λ b. cond b (Ok []) (before here rest)) low) ∙ h in
-            ap (λ b. encoded.entries_of (table_of set) octets (cond b [] (lowered depth e ∷ list_at depth es))) low ∙ ap Ok (told_same [] s ends)
+            ap (λ b. encoded.entries_of (table_of set) octets (cond b [] (lowered depth e ∷ list_at depth es))) low ∙ ap Ok (ok_same [] s ends)
         | inr high ↦
             let step : before here rest ≡ Ok s = sym (ap (λ b. cond b (Ok []) (before here rest)) high) ∙ h in
             let (a, b, first, others, join) = before_ok here rest s step in

@@ -77,8 +77,8 @@ judgement_texts check indent (Some set) list out well spaces s = verdict_texts i
 around_texts : (o : LineOptions) (indent : List ℕ) (level : ℕ) (h : Nest) (inner : List ℕ) (whole : Bool) (out : List ℕ) (well : Bool) → IsText indent → IsLabelText h.label → AreTexts inner
     → ShowsAround o indent level h inner whole out well → AreTexts out
 around_texts o indent level h inner whole out well spaces l lines (verdict, sound, judged, joined, all) =
-    let told = judgement_texts o.check (indent_in indent (level + 1)) h.set h.list verdict sound (further indent (level + 1) spaces) judged in
-    subst AreTexts (sym joined) (and_texts (indented_texts (indent_in indent level) (further indent level spaces) (title_is_text h l)) (and_texts lines told))
+    let reported = judgement_texts o.check (indent_in indent (level + 1)) h.set h.list verdict sound (further indent (level + 1) spaces) judged in
+    subst AreTexts (sym joined) (and_texts (indented_texts (indent_in indent level) (further indent level spaces) (title_is_text h l)) (and_texts lines reported))
 
 -- ---- lists
 

@@ -129,9 +129,9 @@ stored_found table s e n bytes (zero_is, (at, fault, first, numbers)) =
     (at, fault, first, found.0, found.1)
 
 -- so its text is never refused
-pub stored_told : (family other : Family) (s : List ℕ) (e : FirstError) (n : ℕ) (old new : List ℕ) (r : Result ℕ Refusal) → IsBytes s → ErrorAnswers s e (table_of family) (Ok n) → ErrorTextAnswers e old new other r → r ≡ Err BadForm → ⊥
-stored_told family other s e n old new r bytes h told is =
+pub stored_printed : (family other : Family) (s : List ℕ) (e : FirstError) (n : ℕ) (old new : List ℕ) (r : Result ℕ Refusal) → IsBytes s → ErrorAnswers s e (table_of family) (Ok n) → ErrorTextAnswers e old new other r → r ≡ Err BadForm → ⊥
+stored_printed family other s e n old new r bytes h is_printed is =
     let (at, fault, first, place, found) = stored_found (table_of family) s e n bytes h in
     let bad : ErrorTextBy (Some fault) e old new other (Err BadForm) =
-    subst (ErrorTextBy (Some fault) e old new other) is (subst (λ o. ErrorTextBy o e old new other r) found told) in
+    subst (ErrorTextBy (Some fault) e old new other) is (subst (λ o. ErrorTextBy o e old new other r) found is_printed) in
     absurd bad

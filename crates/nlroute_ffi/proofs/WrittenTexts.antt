@@ -53,8 +53,8 @@ module _ (family : Family) (octets : List ℕ) where
       ∙ ap₂ (λ own k. payload_of own (with_kind e k) octets) (label_fields table e.kind) (head_kind e e.kind top refl)
 
   -- that of an element
-  element_told : (e : Entry) (p : List ℕ) (label : Option Label) → e.depth ≡ 1 → own_label family e ≡ Ok label → payload_of (fields_for label) (with_kind e e.inner) octets ≡ Ok p → HasText family octets e
-  element_told e p label below is h =
+  element_texts : (e : Entry) (p : List ℕ) (label : Option Label) → e.depth ≡ 1 → own_label family e ≡ Ok label → payload_of (fields_for label) (with_kind e e.inner) octets ≡ Ok p → HasText family octets e
+  element_texts e p label below is h =
       (p, ap (λ o. payload_by o e octets) is ∙ ap (λ k. payload_of (fields_for label) (with_kind e k) octets) (element_kind e e.inner below refl) ∙ h)
 
   element_held : (e : Entry) (i : ℕ) (s : List ℕ) → e.depth ≡ 1 → element_content (elements_at (table_of family) e.kind) (fields_at (table_of family) e.kind) i e octets ≡ Ok s → HasText family octets e
@@ -68,17 +68,17 @@ module _ (family : Family) (octets : List ℕ) where
         | Array a named class low ↦
             let list = list_label family k (forms.Numbers a) named in
             let looked : fields_at table k ≡ fields.Numbers a = ap fields_in named in
-            element_told e s (Some (with_form (number_form a) list.label)) below (below_label family e below ∙ list.is own)
+            element_texts e s (Some (with_form (number_form a) list.label)) below (below_label family e below ∙ list.is own)
             (value_kind (array_number a) e e.inner octets (array_value a) ∙ (ap (λ row. element_content inner row i e octets) (sym looked) ∙ h))
         | AddressList n named class few low ↦
             let list = list_label family k (forms.Addresses n) named in
             let (p, payload, text) = framed_ok i (payload_of (ip_address n) e octets) s (ap (λ row. element_content inner row i e octets) (sym (ap fields_in named)) ∙ h) in
-            element_told e p (Some (with_form (address_form n) list.label)) below (below_label family e below ∙ list.is own)
+            element_texts e p (Some (with_form (address_form n) list.label)) below (below_label family e below ∙ list.is own)
             (ap (λ row. payload_of row (with_kind e e.inner) octets) (ip_fields table k n (families_formed family) named).0 ∙ payload)
         | NestedList flagged rows named class low ↦
             let row = fields_at inner e.inner in
             let (p, payload, text) = framed_ok (field_of row e.inner e) (payload_of row (with_kind e e.inner) octets) s (ap (λ list. element_content inner list i e octets) (sym (ap fields_in named)) ∙ h) in
-            element_told e p own below (nested_label family flagged e k e.inner below refl refl named) (ap (λ row. payload_of row (with_kind e e.inner) octets) (label_fields inner e.inner) ∙ payload)
+            element_texts e p own below (nested_label family flagged e k e.inner below refl refl named) (ap (λ row. payload_of row (with_kind e e.inner) octets) (label_fields inner e.inner) ∙ payload)
       ]
 
   -- an element, and the entries after it

@@ -38,9 +38,9 @@ HeadHasText family list x [] = ⊥
 HeadHasText family list x (e ∷ es) = (words : List ℕ) → IsEntryText family e list words → IsTextOf (table_of family) x.1 words
 
 -- the first of these entries has a text
-abbrev pub HeadIsTold : Family → List ℕ → Item → List Entry → Type 0
-HeadIsTold family list x [] = ⊥
-HeadIsTold family list x (e ∷ es) = HasText family list e
+abbrev pub HeadHasSomeText : Family → List ℕ → Item → List Entry → Type 0
+HeadHasSomeText family list x [] = ⊥
+HeadHasSomeText family list x (e ∷ es) = HasText family list e
 
 -- ---- names
 

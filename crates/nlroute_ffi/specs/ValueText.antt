@@ -129,8 +129,8 @@ IsEntryText family e octets words = IsText (own_label family e) e octets words
 
 -- the entry encodes to a payload, and the buffer has its text; or it encodes to none, and the error is that of writing it
 abbrev pub LabelAnswers : Result (Option Label) Misfit → Entry → List ℕ → List ℕ → List ℕ → Result ℕ Refusal → Type 0
-LabelAnswers told e octets old new (Ok n) = (words : List ℕ) × IsText told e octets words × StoresText words old new n
-LabelAnswers told e octets old new (Err refusal) = (misfit : Misfit) × (payload_by told e octets ≡ Err misfit) × (refusal ≡ refusal_for misfit)
+LabelAnswers its_label e octets old new (Ok n) = (words : List ℕ) × IsText its_label e octets words × StoresText words old new n
+LabelAnswers its_label e octets old new (Err refusal) = (misfit : Misfit) × (payload_by its_label e octets ≡ Err misfit) × (refusal ≡ refusal_for misfit)
 
 abbrev pub TextAnswers : Entry → List ℕ → List ℕ → List ℕ → Family → Result ℕ Refusal → Type 0
 TextAnswers e octets old new family result = LabelAnswers (own_label family e) e octets old new result

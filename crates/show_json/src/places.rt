@@ -2,7 +2,7 @@
 
 ghost use Rattle.std.specs.Prelude.{◌≡◌, ◌++◌, ◌∷◌, [], OnOk, codes};
 ghost use Rattle.json.specs.Tree.{json_tokens};
-ghost use Rattle.link_capture.specs.Told.{captured_of};
+ghost use Rattle.link_capture.specs.Meaning.{captured_of};
 ghost use Rattle.link_json.specs.Doc.{fields_tokens};
 ghost use Rattle.show_captures.specs.Packet.{protocol_in};
 ghost use Rattle.show_json.specs.Clock.{clock_json};

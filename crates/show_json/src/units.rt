@@ -2,7 +2,7 @@
 
 ghost use Rattle.std.specs.Prelude.{◌≡◌, List, ℕ, [], false, IfOk};
 ghost use Rattle.std.specs.Io.KnownBytes.{Appends};
-ghost use Rattle.link_capture.specs.Told.{captured_of};
+ghost use Rattle.link_capture.specs.Meaning.{captured_of};
 ghost use Rattle.show_lines.specs.Pieces.{AddsPieces, IfWritten};
 ghost use Rattle.show_json.specs.Line.{IsDocument};
 ghost use Rattle.show_json.specs.Stop.{breaks_json};

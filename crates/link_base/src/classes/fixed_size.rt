@@ -33,7 +33,7 @@ pub trait FixedSize {
     ghost fixed: { is_fixed FORM ≡ true };
 
     /// What a value represents.
-    ghost told: { Self.Value → Value };
+    ghost means: { Self.Value → Value };
 
     /// Returns the names of the numbers of an enum, or of the bits of a set of flags.
     fn names() -> &'static [Name]
@@ -42,18 +42,18 @@ pub trait FixedSize {
     /// Returns the value of a payload, whose length must be accepted.
     fn load(payload: &[u8]) -> Self::Value
         requires { length_cause (extent (class_by Self.FORM Self.names)) (length payload.now) ≡ None }
-        ensures { Self.told result ≡ meant (class_by Self.FORM Self.names) payload.now };
+        ensures { Self.means result ≡ meant (class_by Self.FORM Self.names) payload.now };
 
     /// Returns the length of the written payload in bytes.
     fn len(value: &Self::Value) -> usize
-        ensures written { result ≡ length (written (Self.told value.now)) }
+        ensures written { result ≡ length (written (Self.means value.now)) }
         ensures size { result ≡ size_of (extent (class_by Self.FORM Self.names)) };
 
     /// Writes the payload. `buffer` must be exactly `len(value)` bytes long.
     fn store(value: &Self::Value, buffer: &mut [u8])
-        requires { length buffer.old ≡ length (written (Self.told value.now)) }
-        ensures written { buffer.new ≡ written (Self.told value.now) }
-        ensures in_range { IsInRange (class_by Self.FORM Self.names) (Self.told value.now) };
+        requires { length buffer.old ≡ length (written (Self.means value.now)) }
+        ensures written { buffer.new ≡ written (Self.means value.now) }
+        ensures in_range { IsInRange (class_by Self.FORM Self.names) (Self.means value.now) };
 }
 
 impl<F: FixedSize> PayloadClass for F {
@@ -67,7 +67,7 @@ impl<F: FixedSize> PayloadClass for F {
 
     ghost names = { F.names };
 
-    ghost content = { λ value. Single (F.told value) };
+    ghost content = { λ value. Single (F.means value) };
 
     #[inline(always)]
     fn element_label(_kind: u16) -> Option<KindLabel> {

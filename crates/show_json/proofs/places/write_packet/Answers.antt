@@ -1,6 +1,6 @@
 use Rattle.std.proofs.Common.{◌≡◌, ◌++◌, ◌∷◌, [], List, length, subst, codes}
 use Rattle.json.specs.Tree.{json_tokens}
-use Rattle.link_capture.specs.Told.{captured_of}
+use Rattle.link_capture.specs.Meaning.{captured_of}
 use Rattle.link_json.specs.Doc.{Field, fields_tokens, number_json}
 use Rattle.link_json.proofs.Objects.{field_then, field_only, fields_then, object_then}
 use Rattle.show_captures.specs.Packet.{protocol_in}

@@ -1,5 +1,5 @@
 use Rattle.std.proofs.Common.{◌∷◌, [], codes}
-use Rattle.link_capture.specs.Told.{captured_of}
+use Rattle.link_capture.specs.Meaning.{captured_of}
 use Rattle.link_json.proofs.Loops.{on_ok}
 use Rattle.link_json.proofs.Objects.{field_only, fields_then}
 use Rattle.show_json.specs.Clock.{clock_json}

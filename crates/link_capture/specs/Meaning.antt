@@ -15,21 +15,21 @@ pub record Captured : Type 0 where
   pub bytes : List ℕ
 
 -- what a unit means: nothing that is shown, a packet, a message, or the time of the next message
-pub data Told : Type 0 where
-  Nothing : Told
-  APacket : Captured → Told
-  AMessage : List ℕ → Told
-  ATime : Time → Told
+pub data UnitMeaning : Type 0 where
+  Nothing : UnitMeaning
+  APacket : Captured → UnitMeaning
+  AMessage : List ℕ → UnitMeaning
+  ATime : Time → UnitMeaning
 
 abbrev pub captured_of : Packet → Captured
 captured_of p = record { time = p.time; original = p.original; link_type = p.link_type; bytes = p.bytes.now }
 
 -- what an event says
-abbrev pub told_of : Event → Told
-told_of events.Nothing = Nothing
-told_of (events.Packet p) = APacket (captured_of p)
-told_of (events.Message bytes) = AMessage bytes.now
-told_of (events.Time time) = ATime time
+abbrev pub meaning_of : Event → UnitMeaning
+meaning_of events.Nothing = Nothing
+meaning_of (events.Packet p) = APacket (captured_of p)
+meaning_of (events.Message bytes) = AMessage bytes.now
+meaning_of (events.Time time) = ATime time
 
 -- what is known of an input after some of its units: how the next one is read, and the interfaces of the section
 pub record State : Type 0 where

@@ -7,7 +7,7 @@ use Rattle.std.proofs.KnownBytes.{Appends-nil, Appends-trans, Appends-kept, Cons
 use Rattle.link_capture.specs.declared.form.Form.{Form}
 use Rattle.link_capture.specs.declared.other_format.OtherFormat.{OtherFormat}
 use Rattle.link_capture.specs.Form.{begins_magic}
-use Rattle.link_capture.proofs.Forms.{told}
+use Rattle.link_capture.proofs.Forms.{form_kept}
 use Rattle.program.specs.Printing.{FlushesOrFails}
 use Rattle.show_lines.specs.Show.{ShowsAll}
 use Rattle.show_lines.specs.Run as lines
@@ -18,9 +18,9 @@ use Rattle.show_captures.specs.Run.{RunsCapture, RunsFrom, Runs, RunsFor, ShowsF
 use Rattle.show_captures.specs.Shower.{InputShower}
 
 -- what follows bytes that tell the form does not change it
-form_told : (raw : Bool) (first rest : List ℕ) → begins_magic first ≡ false → input_form raw (first ++ rest) ≡ input_form raw first
-form_told true first rest h = refl
-form_told false first rest h = told first rest h
+form_known : (raw : Bool) (first rest : List ℕ) → begins_magic first ≡ false → input_form raw (first ++ rest) ≡ input_form raw first
+form_known true first rest h = refl
+form_known false first rest h = form_kept first rest h
 
 -- nothing more was read
 empty_left : (t : Option (List ℕ)) (text : List ℕ) → Consumes (Some []) t text → text ≡ []
@@ -32,10 +32,10 @@ empty_left (Some left) (b ∷ text) h = absurd (omega (arith, ap length h))
 all_of : (s : Option (List ℕ)) (first more : List ℕ) → IsAtEnd s → MayFollow s more → first ++ more ≡ first
 all_of s first more end may = ap (λ m. first ++ m) (may end) ∙ append-nil first
 
--- what follows does not change what is told, by bytes that are all or that tell it
+-- what follows does not change the form that is known, by bytes that are all or that tell it
 same_form : (raw is_last : Bool) (first more : List ℕ) (s : Option (List ℕ)) → (is_last ≡ true → IsAtEnd s) → (is_last ≡ false → begins_magic first ≡ false) → MayFollow s more → input_form raw (first ++ more) ≡ input_form raw first
 same_form raw true first more s ends tells may = ap (input_form raw) (all_of s first more (ends refl) may)
-same_form raw false first more s ends tells may = form_told raw first more (tells refl)
+same_form raw false first more s ends tells may = form_known raw first more (tells refl)
 
 small_status : (file : Result (Option Form) OtherFormat) (whole : Bool) → status_of file whole < 3
 small_status (Ok form) true = omega arith
@@ -65,10 +65,10 @@ module _ {shower : InputShower} where
           out = h.out;
           read = Consumes-trans r s t first h.text read h.read;
           shows = λ more may. subst (λ l. ShowsInput shower raw l h.out whole) (sym (append_assoc first h.text more))
-              (subst (λ f. ShowsFile shower f (first ++ (h.text ++ more)) h.out whole) (sym (form_told raw first (h.text ++ more) tells ∙ is)) (h.shows more may));
+              (subst (λ f. ShowsFile shower f (first ++ (h.text ++ more)) h.out whole) (sym (form_known raw first (h.text ++ more) tells ∙ is)) (h.shows more may));
           written = Appends-trans w v u [] h.out (Appends-kept w w v [] (Appends-nil w) keeps) h.written;
         } in
-        (whole, (run, sym (ap (λ f. status_of f whole) (form_told raw first h.text tells ∙ is))))
+        (whole, (run, sym (ap (λ f. status_of f whole) (form_known raw first h.text tells ∙ is))))
 
     -- the first bytes are all
     pub runs_out : Consumes r s first → IsAtEnd s → Keeps w v → RunsFrom shower form first (Some []) t v u whole → RunsFor shower raw r s w u (if whole then 0 else 1)
