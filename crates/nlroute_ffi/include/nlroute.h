@@ -572,7 +572,7 @@ struct nlroute_row {
     uint16_t flags;  /* flags of nla_type that nlroute_write() writes: NLA_F_NESTED for some lists; else 0 */
     uint8_t form;    /* an nlroute_form; NLROUTE_FORM_UNKNOWN if the type is not known */
     uint8_t is_list; /* 1 if elements follow, else 0 */
-    uint32_t unit;   /* an nlroute_unit: what its number counts, or each number of its array; of a struct, NLROUTE_UNIT_NONE */
+    uint32_t unit;   /* an nlroute_unit: what its number counts, or each of its array; of a struct, NLROUTE_UNIT_NONE */
 }; /* 12 bytes, without padding */
 
 /*
