@@ -158,7 +158,7 @@ WRITTEN = [
     (
         "README.md",
         r"(?<=\bThey cover ).*?(?=\]\(docs/families\.md\))",
-        lambda rows: f"{whose_lists(rows)} ([{len(rows)} families",
+        lambda rows: f"{whose_lists(rows)} ([{len(rows)} attribute sets",
     ),
     ("crates/nlroute_ffi/examples/calls.c", r"(?<=^static const char \*const sets\[\] = \{\n)(?: .*\n)*", in_calls),
     ("crates/netlink_packet_route/specs/Families.antt", r"(?<=^all_families =\n)(?: .*\n)*", in_order),

@@ -338,7 +338,7 @@ enum nlroute_family {
 """),
     MAN: (".B a\nThe list is IFLA_INFO_DATA of a\n.BR a\nThe list is IFLA_INFO_SLAVE_DATA of a\n.B a\nThe list is A\n",
           '.BR dsa ", " hsr\nThe list is IFLA_INFO_DATA of a\n.B port\nThe list is IFLA_INFO_SLAVE_DATA of a\n.B a\nThe list is A\n'),
-    "README.md": ("They cover a](docs/families.md) b\n", "They cover DSA ports, ports, and HSR devices ([6 families](docs/families.md) b\n"),
+    "README.md": ("They cover a](docs/families.md) b\n", "They cover DSA ports, ports, and HSR devices ([6 attribute sets](docs/families.md) b\n"),
     **{it: ("link attributes, such as those of a. It has b\n",
             "link attributes, such as those of DSA ports, ports, and HSR devices. It has b\n") for it in BINDINGS},
     ANSWERS: (f"-- A\n{GOALS}\nold\n", f"-- A\n{GOALS}" + "".join(f"""
