@@ -1,6 +1,6 @@
 #!/usr/bin/env python3
 """Writes what is made from the sources: docs/families.md, docs/nlroute.3, docs/captured.pcapng, the lists of attribute sets,
-what tools/sets.py makes from sets/, and the counts of pages. It also prints what people look up.
+what tools/sets.py makes from sets/, and of pages counts and tables of what was measured. It also prints what people look up.
 
 usage: tools/made.py [--check | --map | --claims CRATE.. | --rows [SET..]]
 
@@ -14,7 +14,8 @@ definitions of a macro the one for C++. An inline function has no body there. Th
 captured.pcapng has the messages of runs/plain/captured as packets, each with the comment above it. Their times are not
 known, and are 0.
 
-A count is the number before a mark, as tools/pages.py has them: `148<!-- count: tests of refusals --> tests`.
+A table of what was measured has the columns that a mark names, of a file that bench/ writes:
+`<!-- made: bench/measured.tsv: Read, Check -->`. A count is the number before a mark, as tools/pages.py has them: `148<!-- count: tests of refusals --> tests`.
 
 --map prints the files of the crates, in the order of crates.txt, each with the first sentence of its header. A file of src/
 begins with lines `//!`, one of specs/ or proofs/ with lines `--`. Lib.antt, which only lists the others, and the proofs of
@@ -258,6 +259,25 @@ def counted(text, tree):
     return MARKED.sub(number, text)
 
 
+# ---- what was measured
+
+MEASURED = re.compile(r"^(<!-- made: (\S+\.tsv): (.*) -->\n```text\n)(?:(?!```).*\n)*(?=```$)", re.MULTILINE)
+
+
+def measured(text, tree):
+    """A page with its tables of what was measured: below a mark with a file, the columns that it names."""
+
+    def table(found):
+        titles, *rows = (line.split("\t") for line in tree.text(found[2]).splitlines())
+        places = [titles.index(it) for it in found[3].split(", ")]
+        lines = [["", *(titles[at] for at in places)], *([row[1], *(row[at] for at in places)] for row in rows)]
+        first, *widths = (max(map(len, column)) for column in zip(*lines))
+        cells = (f"{name:<{first}}" + "".join(f"  {it:>{width}}" for it, width in zip(row, widths)) for name, *row in lines)
+        return found[1] + "".join(f"{line}\n" for line in cells)
+
+    return MEASURED.sub(table, text)
+
+
 # ---- public functions without a clause
 
 CLAIMS = "docs/proofs/CLAIMS.md"
@@ -288,7 +308,7 @@ def made_of(tree, lists):
     """The bytes of all files that are made, by their paths; `lists` has the texts of some."""
     texts = lists | {"docs/families.md": page_of_families(tree), "docs/nlroute.3": manual(tree)}
     pages = {path: texts.get(path) or tree.text(path) for path in tree.files if PAGES.fullmatch(path) and path != HISTORY}
-    texts |= {path: counted(text, tree) for path, text in pages.items() if MARKED.search(text)}
+    texts |= {path: measured(counted(text, tree), tree) for path, text in pages.items() if MARKED.search(text) or MEASURED.search(text)}
     return {path: text.encode() for path, text in texts.items()} | {"docs/captured.pcapng": capture(tree.text(CAPTURED))}
 
 

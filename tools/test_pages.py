@@ -397,6 +397,8 @@ MADE = [
      f"{MAN}: 2 places are as {families.WRITTEN[1][1]}, and one has to be"),
     (made.counted("Two<!-- count: a -->, 1**<!-- count:\nb --> and 3<!-- count: c -->", collections.namedtuple("Tree", "counts")({"a": 2, "b": 1234})),
      "Two<!-- count: a -->, 1,234**<!-- count:\nb --> and 3<!-- count: c -->"),
+    (made.measured("a\n<!-- made: x.tsv: C, A -->\n```text\nold\n```\n", collections.namedtuple("Tree", "text")(lambda _: "n\tw\tA\tC\nx\tone\t1\t2.0\n")),
+     "a\n<!-- made: x.tsv: C, A -->\n```text\n       C  A\none  2.0  1\n```\n"),
     (made.capture("# One\n# two\n> message 01\nNo\n# three\n")[-40:-4], made.COOKED + b"\1\0\0\0\1\0\7\0One two\0\0\0\0\0"),
 ]  # fmt: skip
 
