@@ -35,8 +35,8 @@ each page has.
 The names of counts are `tests`, `mutants`, `must-fail edits` and those `of CRATE`: the functions with `#[test]`, the
 headings `## NAME` of mutants.edits, and the files must-fail/*.edit; `mutants of definitions`: those of files in specs/;
 `calls that allocate`, `calls that do not allocate`: the lines of crates/refusals/stdin; `runs`, `runs of FOLDER`: the
-runs below runs/; `lists of FOLDER`, and `WORD lines of FOLDER` for other first words: what its runs of `nlshow` have as
-standard input.
+runs below runs/; `lists`, and `WORD lines` for other first words, each also `of FOLDER`: what the runs of `nlshow` have
+as standard input.
 
 The last line is 'N passed, M failed', where each rule counts once for each page, and the status 0 only if all passed.
 """
@@ -309,7 +309,7 @@ class Tree:
                 lines = run.stdin.decode(errors="replace").split("\n") if run.program == "nlshow" else []
                 words = [it.split()[0] for it in lines if it.strip() and it[0] != "#"]
                 kinds = ["lists" if it in sets else f"{it} lines" for it in words]
-                numbers.update(["runs", *(f"{it} of {folder}" for it in ["runs", *kinds])])
+                numbers.update([*kinds, "runs", *(f"{it} of {folder}" for it in ["runs", *kinds])])
         return numbers
 
 

@@ -52,7 +52,7 @@ It has the clause `ensures length { result ≡ 2 }`, and `requires { .. }`.
   --> of definitions, 1<!-- count: must-fail edits --> must-fail edit. The other names are `IsPair`, `pair_delay` and `nla_type`.
 - 1,001<!-- count: calls that allocate --> calls allocate, 1<!-- count: calls that do not allocate --> does not.
 - 2<!-- count: lists of plain --> lists, one<!-- count: check lines of plain --> `check`, 7<!-- count: runs --> runs,
-  1<!-- count: message lines of plain --> message, 2<!-- count: tap lines of plain --> others.
+  1<!-- count: message lines of plain --> message, 2<!-- count: tap lines --> others.
 
 ```text
 src/lib.rt   len_of: IsPair, IsPairPair, NAME.rt, ./made/by_rt.rt
