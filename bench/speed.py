@@ -1,13 +1,25 @@
 #!/usr/bin/env python3
-"""speed.py LIB.a.. [LIST..]: instructions and allocations a list, of the calls of driver.c that the static libraries have, beside the instructions
+"""speed.py [--write] LIB.a.. [LIST..]: instructions and allocations a list, of the calls of driver.c that the static libraries have, beside the instructions
 of the Rust crate (original.tsv); and those of the request of request.c, which is the list `request` here. Instructions do not depend on how busy the machine is. The cost of an empty loop is subtracted from ours.
+With --write, the ratios go to measured.tsv too, of which tools/made.py makes the tables of README.md.
 Needs cc and valgrind (Debian's packages gcc and valgrind)."""
 import functools, os, re, subprocess, sys, tempfile
 here = os.path.dirname(os.path.abspath(__file__))
 sys.dont_write_bytecode = True
 sys.path.insert(0, f"{here}/../tools")
 from families import names
-libs, lists = [it for it in sys.argv[1:] if it.endswith(".a")], [it for it in sys.argv[1:] if not it.endswith(".a")]
+libs, lists = [it for it in sys.argv[1:] if it.endswith(".a")], [it for it in sys.argv[1:] if not it.endswith(".a") and it != "--write"]
+# The columns of measured.tsv, by calls.
+COLUMNS = {"read": "Read", "check": "Check", "check_and_walk": "Check and walk", "walk (difference)": "Walk", "rewrite": "Rewrite", "rewrite_streaming": "One at a time", "is_canonical": "Canonical",
+           "values": "Values", "places": "Places", "measure": "Measure", "write": "Write", "change": "Change"}
+ratios = {}
+def write_ratios(path):
+    """Writes the ratios to measured.tsv, in place of those of the same list and call."""
+    titles, *lines = (line.split("\t") for line in open(path).read().splitlines())
+    for row in lines:
+        for what, title in COLUMNS.items():
+            row[titles.index(title)] = ratios.get((row[0], what), row[titles.index(title)])
+    with open(path, "w") as file: file.writelines("\t".join(row) + "\n" for row in [titles, *lines])
 if not libs: sys.exit(__doc__)
 kit = os.path.dirname(subprocess.run(["rt", "doc"], capture_output=True, text=True, check=True).stdout.strip())
 number = {f: i for i, f in enumerate(names())}
@@ -34,6 +46,7 @@ with tempfile.TemporaryDirectory() as d:
         a, b = (list(map(int, re.search(r"calls=(\d+) grows=(\d+)", run(name, family, what, m, (), {"LD_PRELOAD": count}.items()).stderr).groups())) for m in (10, 30))
         return "%.0f+%.0f" % tuple((y - x) / 20 for x, y in zip(a, b))
     def show(name, what, answer, mine, other, requests=""):
+        ratios[name, what] = f"{mine / int(other):.2f}"
         print(f"{name:<14}{what:<20}{answer:>12}{mine:>10.0f}{int(other):>10}{mine / int(other):>7.2f}  {requests}".rstrip(), flush=True)
     print(f"{'list':<14}{'call':<20}{'answer':>12}{'ours':>10}{'original':>10}{'ratio':>7}  allocations (new+grown)")
     for name, family, read, into, owned in rows:
@@ -49,3 +62,4 @@ with tempfile.TemporaryDirectory() as d:
     if answer != "-5" and (not lists or "request" in lists):
         print(f"{'bond':<14}{'request':<20}{answer:>12}{instructions('dsa1', 'dsa', 'request') - empty('request'):>10.0f}{'':>19}{requests('dsa1', 'dsa', 'request')}")
     print(f"subtracted: {empty('read'):.0f} for the loop, {empty('rewrite'):.0f} for that of the rewrites")
+if "--write" in sys.argv: write_ratios(f"{here}/measured.tsv")

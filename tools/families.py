@@ -5,9 +5,9 @@ name, the enum of attributes, the number in C, and what holds its lists, in brac
 specs/Family.antt. The comment of the variant says whose attributes they are.
 
 What only repeats the list, `written` has: tools/made.py writes it. These are the constants of nlroute.h, which
-bindings/generate.py reads, the names in nlroute.1 and calls.c, the words for the families in three READMEs, headings of
-MODEL.md, the list of all in specs/Families, and a proof with an equal part for each set. LISTS are parts of pages that are
-written by hand. COVERED is what the runs have for each attribute set.
+bindings/generate.py reads, the names in nlroute.1 and calls.c, the words for the families in three READMEs, the list of all
+in specs/Families, and a proof with an equal part for each set. LISTS are parts of pages that are written by hand. COVERED
+is what the runs have for each attribute set.
 """
 import os
 import re
@@ -26,7 +26,6 @@ COMMENT = re.compile(r"^    /// `(\w+)`: attributes of (.*?),\s+(?:/// )?\[`\w+`
 # {attributes}, {number} and {table} are those of the row.
 LISTS = [
     ("docs/nlroute.1", r"^\.BR? .*\b{name}\b"),
-    ("docs/proofs/MODEL.md", r"^### .*: `{attributes}`, `{table}`$"),
 ]
 # Only of sets that a kind selects, or an AF_BRIDGE message.
 IN_MESSAGES = r"^  {name} at \d+\n    \w"
@@ -159,7 +158,7 @@ WRITTEN = [
     (
         "README.md",
         r"(?<=\bThey cover ).*?(?=\]\(docs/families\.md\))",
-        lambda rows: f"{whose_lists(rows)} ([{len(rows)} families",
+        lambda rows: f"{whose_lists(rows)} ([{len(rows)} attribute sets",
     ),
     ("crates/nlroute_ffi/examples/calls.c", r"(?<=^static const char \*const sets\[\] = \{\n)(?: .*\n)*", in_calls),
     ("crates/netlink_packet_route/specs/Families.antt", r"(?<=^all_families =\n)(?: .*\n)*", in_order),
@@ -171,7 +170,6 @@ WRITTEN = [
         lambda rows: "".join(answers(rows)),
     ),
 ]
-MODEL = "docs/proofs/MODEL.md"
 
 
 def replaced(text, pattern, new):
@@ -186,8 +184,4 @@ def written(text_of):
         found[path], places = replaced(found.get(path) or text_of(path), pattern, words(rows))
         if places != 1:
             raise ValueError(f"{path}: {places} places are as {pattern}, and one has to be")
-    found[MODEL] = text_of(MODEL)
-    for row in rows:
-        title, end = row["whose"][:1].upper() + row["whose"][1:], f": `{row['attributes']}`, `{row['table']}`"
-        found[MODEL], _ = replaced(found[MODEL], rf"^### .*{re.escape(end)}$", f"### {title}{end}")
     return found

@@ -15,12 +15,6 @@ LISTS = [
     ("docs/rattle.md", r"crates/link_messages/src/(?!laws).*\.rt", r"^pub fn (\w+)", "function"),
     ("docs/programs.md", r"crates/show_lines/src/replies\.rt", r"^  (?:-\w, )?--(\w+)", "option of nlshow"),
     ("docs/nlshow.1", r"crates/show_lines/src/replies\.rt", r"^  (?:-\w, )?--(\w+)", "option of nlshow"),
-    (
-        "docs/proofs/CLAIMS.md",
-        r"crates/(?!refusals/|library_tests/|list_tests/)\w+/src/(?!.*\btests\b).*\.rt",
-        r"^\s*pub (?:const )?fn (\w+)",
-        "public function",
-    ),
 ]
 PLACES = [
     ("docs/ARCHITECTURE.md", r"runs/(\w+)/.+", "folder of runs"),

@@ -1,12 +1,8 @@
 #!/usr/bin/env python3
-"""Writes what is made from the sources: docs/MAP.md, docs/families.md, docs/nlroute.3, docs/captured.pcapng, the tables of
-CLAIMS.md, the lists of attribute sets, what tools/sets.py makes from sets/, and the counts of pages.
+"""Writes what is made from the sources: docs/families.md, docs/nlroute.3, docs/captured.pcapng, the lists of attribute sets,
+what tools/sets.py makes from sets/, and of pages counts and tables of what was measured. It also prints what people look up.
 
-usage: tools/made.py [--check]
-
-MAP.md has the files of the crates, each with the first sentence of its header. A file of src/ begins with lines `//!`, one
-of specs/ or proofs/ with lines `--`. Lib.antt, which only lists the others, and the proofs of single functions, in folders
-below proofs/, are left out. The crates are in the order of crates.txt.
+usage: tools/made.py [--check | --map | --claims CRATE.. | --rows [SET..]]
 
 families.md has a row for each attribute set of `families!`, in its order, and the words of its comment in `Family`. The
 other lists of attribute sets, such as the constants of nlroute.h, are parts of files: tools/families.py has their places.
@@ -15,38 +11,36 @@ nlroute.3 is the man page of nlroute.h and nlroute_requests.h: the declarations,
 declarations begins a section, whose name is its first words. What is only for the preprocessor is left out, and of two
 definitions of a macro the one for C++. An inline function has no body there. The example is that of docs/c.md.
 
-A table of CLAIMS.md names functions, and has the clauses of their contracts: name and promise, as the sources have them,
-without `requires`. To add a function to a table, write its name there. Of several functions of one name, it is the one
-that has most of the promises that are there. A row that is in no contract is a ghost item, and stays as it is.
-
 captured.pcapng has the messages of runs/plain/captured as packets, each with the comment above it. Their times are not
 known, and are 0.
 
-A count is the number before a mark, as tools/pages.py has them: `148<!-- count: tests of refusals --> tests`.
+A table of what was measured has the columns that a mark names, of a file that bench/ writes:
+`<!-- made: bench/measured.tsv: Read, Check -->`. A count is the number before a mark, as tools/pages.py has them: `148<!-- count: tests of refusals --> tests`.
 
-With --check it says which of them is not what would be written, and which files have no header, and ends with 'N passed,
-M failed'; CI does this.
+--map prints the files of the crates, in the order of crates.txt, each with the first sentence of its header. A file of src/
+begins with lines `//!`, one of specs/ or proofs/ with lines `--`. Lib.antt, which only lists the others, and the proofs of
+single functions, in folders below proofs/, are left out. --claims prints the contracts of crates, --rows the attribute types
+of all attribute sets, or of those named: tools/contracts.py explains both.
+
+With --check it says which files are not what would be written, which have no header, and which public functions have no
+clause though CLAIMS.md does not name them, and ends with 'N passed, M failed'; CI does this.
 """
 import glob
 import os
 import re
+import signal
 import struct
 import sys
 import textwrap
 
 sys.dont_write_bytecode = True
+import contracts  # noqa: E402
 import families  # noqa: E402
 import sets  # noqa: E402
-from pages import CLAIMS, HISTORY, PAGES, ROOT, SPELLED, Tree, clause_tables, head_of, is_ghost  # noqa: E402
+from pages import HISTORY, PAGES, ROOT, SPELLED, Tree  # noqa: E402
 
-# ---- docs/MAP.md
+# ---- the map
 
-TOP = """\
-# The files of the crates
-
-Each file of `src`, `specs` and `proofs`, with the first sentence of its header. `tools/made.py` writes this page.
-[ARCHITECTURE.md](ARCHITECTURE.md) says how the crates fit together.
-"""
 HEADER = {"rt": re.compile(r"(?://!.*\n)+"), "antt": re.compile(r"(?:-- .*\n)+")}
 COLUMN, WIDTH = 34, 118
 
@@ -74,15 +68,19 @@ def row(path, words):
     return "\n".join([first, *(" " * COLUMN + it for it in lines[1:])])
 
 
-def map_of(tree, ill):
-    """The text of MAP.md. Files without a header are added to `ill`."""
-    parts = [TOP]
-    for crate in re.findall(r"^(\w+)[^:\n#]*:", tree.text("crates.txt"), re.MULTILINE):
+def crates_in(tree):
+    """The crates of the repository, in the order of crates.txt."""
+    return re.findall(r"^(\w+)[^:\n#]*:", tree.text("crates.txt"), re.MULTILINE)
+
+
+def map_of(tree):
+    """The lines of the map, and the files without a header."""
+    lines, ill = [], []
+    for crate in crates_in(tree):
         found = {path: header(tree.text(f"crates/{crate}/{path}"), path.rpartition(".")[2]) for path in files(crate)}
         ill += [f"crates/{crate}/{path}" for path, words in found.items() if not words]
-        rows = [row(path, words) for path, words in found.items() if words]
-        parts.append(f"## `{crate}`\n\n```text\n" + "\n".join(rows) + "\n```\n")
-    return "\n".join(parts)
+        lines += [crate, *(row(path, words) for path, words in found.items() if words), ""]
+    return lines, ill
 
 
 # ---- docs/nlroute.3
@@ -179,71 +177,6 @@ def example(tree):
     return re.search(r"^```c\n(#include.*?)\n```$", tree.text("docs/c.md"), re.MULTILINE | re.DOTALL)[1]
 
 
-# ---- docs/proofs/CLAIMS.md
-
-COLUMNS = 140
-
-
-def promises(head):
-    """The clauses of a function, from its head in one line: names, or –, and promises."""
-    found = []
-    for it in re.finditer(r"\bensures\*? (\w* ?)\{ ", head.split(" fn ")[0]):
-        end, depth = it.end(), 1
-        while depth:
-            depth += {"{": 1, "}": -1}.get(head[end], 0)
-            end += 1
-        if not it[0].startswith("ensures*"):
-            found.append((it[1].strip() or "–", head[it.end() : end - 1].strip()))
-    return found
-
-
-def rows_of(name, rows, tree):
-    """The rows of a function in a table: those of its contract, then those of ghost items, which are there already."""
-    head = head_of(name, rows, tree)
-    own = promises(head) if head else []
-    others = [(clause, promise) for _, clause, promise in rows if (clause, promise) not in own]
-    return own + [it for it in others if is_ghost(*it, tree)]
-
-
-def broken(text, width):
-    """A promise in lines of at most this width, broken where the fewest brackets are open; the first is longer by two."""
-    depths = [text[:at].count("(") - text[:at].count(")") for at in range(len(text))]
-    start, limit = 0, width
-    while len(text) - start > limit:
-        spaces = [at for at in range(start + limit // 2, start + limit + 1) if text[at] == " "]
-        end = min(spaces, key=lambda at: (depths[at], -at), default=text.find(" ", start + limit))
-        if end < 0:
-            break
-        yield text[start:end]
-        start, limit = end + 1, width - 2
-    yield text[start:]
-
-
-def table(functions, tree):
-    """The lines of a table of clauses."""
-    rows = [(name, rows_of(name, found, tree)) for _, name, found in functions]
-    first = max(len(name) for name, _ in rows) + 2
-    second = max([len(clause) for _, found in rows for clause, _ in found], default=0) + 2
-    for name, found in rows:
-        for clause, promise in found:
-            line, *others = broken(promise, COLUMNS - first - second)
-            yield f"{name:<{first}}{clause:<{second}}{line}"
-            yield from (" " * (first + second + 2) + it for it in others)
-            name = ""
-
-
-def claims(tree):
-    """The text of CLAIMS.md with its tables."""
-    page = tree.page(CLAIMS)
-    lines, tables = [*page.lines], {}
-    for line, name, rows in clause_tables(page):
-        start = max(it for it in page.blocks if it < line)
-        tables.setdefault(start, []).append((line, name, rows))
-    for start in sorted(tables, reverse=True):
-        lines[start : start + len(page.blocks[start])] = table(tables[start], tree)
-    return "\n".join(lines)
-
-
 # ---- docs/families.md
 
 FAMILIES = """\
@@ -326,6 +259,40 @@ def counted(text, tree):
     return MARKED.sub(number, text)
 
 
+# ---- what was measured
+
+MEASURED = re.compile(r"^(<!-- made: (\S+\.tsv): (.*) -->\n```text\n)(?:(?!```).*\n)*(?=```$)", re.MULTILINE)
+
+
+def measured(text, tree):
+    """A page with its tables of what was measured: below a mark with a file, the columns that it names."""
+
+    def table(found):
+        titles, *rows = (line.split("\t") for line in tree.text(found[2]).splitlines())
+        places = [titles.index(it) for it in found[3].split(", ")]
+        lines = [["", *(titles[at] for at in places)], *([row[1], *(row[at] for at in places)] for row in rows)]
+        first, *widths = (max(map(len, column)) for column in zip(*lines))
+        cells = (f"{name:<{first}}" + "".join(f"  {it:>{width}}" for it, width in zip(row, widths)) for name, *row in lines)
+        return found[1] + "".join(f"{line}\n" for line in cells)
+
+    return MEASURED.sub(table, text)
+
+
+# ---- public functions without a clause
+
+CLAIMS = "docs/proofs/CLAIMS.md"
+# Crates that only test.
+TESTING = ("refusals", "library_tests", "list_tests")
+
+
+def unnamed(tree):
+    """The public functions that have no clause, and that CLAIMS.md does not name."""
+    page = tree.text(CLAIMS)
+    for crate in crates_in(tree):
+        found = contracts.without_clause(tree, crate) if crate not in TESTING else []
+        yield from (f"{crate}: {name} has no clause, and {CLAIMS} does not name it" for name in found if f"`{name}`" not in page)
+
+
 # ---- all of them
 
 
@@ -337,37 +304,50 @@ def write(made):
             file.write(data)
 
 
+def made_of(tree, lists):
+    """The bytes of all files that are made, by their paths; `lists` has the texts of some."""
+    texts = lists | {"docs/families.md": page_of_families(tree), "docs/nlroute.3": manual(tree)}
+    pages = {path: texts.get(path) or tree.text(path) for path in tree.files if PAGES.fullmatch(path) and path != HISTORY}
+    texts |= {path: measured(counted(text, tree), tree) for path, text in pages.items() if MARKED.search(text) or MEASURED.search(text)}
+    return {path: text.encode() for path, text in texts.items()} | {"docs/captured.pcapng": capture(tree.text(CAPTURED))}
+
+
+def compare(made, tree):
+    """Says what is not as it would be written, and how much is."""
+    _, ill = map_of(tree)
+    changed = [path for path, data in made.items() if tree.data(path) != data]
+    bare = [*unnamed(tree)]
+    print(*(f"{path}: it has no header" for path in ill), *bare, sep="\n", end="\n" * bool(ill + bare))
+    print(*(f"{path}: it is not what tools/made.py writes: run that" for path in changed), sep="\n", end="\n" * bool(changed))
+    failed = len(changed) + bool(ill) + bool(bare)
+    print(f"{len(made) + 2 - failed} passed, {failed} failed")
+    return failed > 0
+
+
 def main():
-    option = "".join(sys.argv[1:])
-    if option not in ("", "--check"):
-        sys.exit(__doc__)
-    tree, ill = Tree(ROOT), []
+    option, *named = sys.argv[1:] or [""]
+    # (`| head` is no error)
+    signal.signal(signal.SIGPIPE, signal.SIG_DFL)
+    tree = Tree(ROOT)
     try:
-        lists = sets.written(tree.files, tree.text)
-        lists |= families.written(lambda path: lists.get(path) or tree.text(path))
+        if option == "--map" and not named:
+            print(*map_of(tree)[0], sep="\n")
+        elif option == "--claims" and named:
+            print(*(line for crate in named for line in contracts.claims(tree, crate)), sep="\n")
+        elif option == "--rows":
+            print(*contracts.rows(tree, named), sep="\n")
+        elif option not in ("", "--check") or named:
+            sys.exit(__doc__)
+        else:
+            lists = sets.written(tree.files, tree.text)
+            lists |= families.written(lambda path: lists.get(path) or tree.text(path))
+            if option:
+                sys.exit(compare(made_of(tree, lists), tree))
+            write({path: text.encode() for path, text in lists.items()})
+            tree = Tree(ROOT)
+            write(made_of(tree, lists))
     except ValueError as error:
         sys.exit(f"{error}\n0 passed, 1 failed")
-    if not option:
-        write({path: text.encode() for path, text in lists.items()})
-        tree = Tree(ROOT)
-    texts = lists | {
-        "docs/MAP.md": map_of(tree, ill), "docs/families.md": page_of_families(tree), "docs/nlroute.3": manual(tree),
-        CLAIMS: claims(tree),
-    }  # fmt: skip
-    pages = {path: texts.get(path) or tree.text(path) for path in tree.files if PAGES.fullmatch(path) and path != HISTORY}
-    texts |= {path: counted(text, tree) for path, text in pages.items() if MARKED.search(text)}
-    made = {path: text.encode() for path, text in texts.items()} | {"docs/captured.pcapng": capture(tree.text(CAPTURED))}
-    if not option:
-        write(made)
-        return
-    changed = [path for path, data in made.items() if tree.data(path) != data]
-    for path in ill:
-        print(f"{path}: it has no header")
-    for path in changed:
-        print(f"{path}: it is not what tools/made.py writes: run that")
-    failed = len(changed) + bool(ill)
-    print(f"{len(made) + 1 - failed} passed, {failed} failed")
-    sys.exit(failed > 0)
 
 
 if __name__ == "__main__":

@@ -1,16 +1,15 @@
 #!/usr/bin/env python3
 """Checks the pages of the repository: their samples, clauses, links, names, counts and lengths.
 
-usage: tools/pages.py [PAGE..]
+usage: tools/pages.py [--words | PAGE..]
 
-The pages are README.md, CONTRIBUTING.md, CHANGELOG.md, docs/*.md, docs/proofs/*.md and the README.md of bench, tools, extra
-and crates, or those that are named. Each page is checked by nine rules:
+The pages are README.md, CONTRIBUTING.md, CHANGELOG.md, docs/*.md, docs/proofs/*.md, docs/nlshow.1, docs/nlroute.1 and the
+README.md of bench, tools, extra, bindings and crates, or those that are named. Each page is checked by seven rules:
 
 - samples: a code block below a line `<!-- from: PATH -->` is a verbatim part of that file. The indentation that its
   lines share may be removed, and blanks at the end of a line do not count. A line `..` or `...` represents any lines.
 - clauses: inline code that begins with `requires ` or `ensures ` is in an .rt file of crates/. White space does not
-  count, and ` .. ` represents any text. In docs/proofs/CLAIMS.md, a block of text with the columns function, clause (or –) and
-  promise has each promise of that function as its contract has it, or as a `ghost` item of that type has it.
+  count, and ` .. ` represents any text.
 - links: a relative link leads to a file or folder, and its `#anchor` to a heading of that page.
 - files: inline code that looks like a path, with a slash or one of SUFFIXES, is one: from the top, from the page's
   folder, or the end of a longer path. One with `NAME` or a wildcard is skipped, and so are those of ELSEWHERE. A word
@@ -20,21 +19,24 @@ and crates, or those that are named. Each page is checked by nine rules:
 - names: a word in snake_case or CamelCase, in inline code or such a block, is in a source: a file of SOURCES, or a document
   of runs/json. Those of OTHER_NAMES are skipped. So are CHANGELOG.md and docs/DIFFERENCES.md, which have names of the
   past and of others.
-- rows: a line `3  CONSTANT  Variant  SHAPE as QUANTITY` in such a block is a row of src/, and a row of a table of specs/
-  that the heading names. `as QUANTITY` is missing if there is none. What follows a colon or a comma is skipped, and so
-  is `as OTHER` in place of a shape.
 - counts: a number with a mark, as in `148<!-- count: tests of refusals --> tests`, is that of the tree. A number of
   tests, mutants or edits has a mark, except in CHANGELOG.md.
-- budget: the page has no more words than BUDGETS allows. Code blocks and comments do not count.
 
-Unless pages are named, two more checks compare what pages and runs have for each attribute set with the list in
-family.rt, as tools/families.py says (tools/made.py compares the lists that it writes), and pages that list all of something with the sources (tools/inventories.py).
+A man page is read as such a page: its examples (.EX) are code blocks, a comment `.\\" from: PATH` above one is a mark, a
+reference to a page of ours is a link, and words in snake_case or CamelCase, and those with a slash, are inline code.
+
+Unless pages are named, more checks compare what pages, runs and comments have for each attribute set with the list in
+family.rt and with sets/, as tools/families.py and sets.py say (tools/made.py compares the lists that it writes), and pages
+that list all of something with the sources (tools/inventories.py). And all pages together have at most TOTAL words, besides
+CHANGELOG.md, which has at most HISTORY_WORDS. Code blocks, comments, docs/families.md and tables below a line
+`<!-- made: .. -->`, which tools write, do not count; of man pages, each word of the source does. --words prints how many
+each page has.
 
 The names of counts are `tests`, `mutants`, `must-fail edits` and those `of CRATE`: the functions with `#[test]`, the
 headings `## NAME` of mutants.edits, and the files must-fail/*.edit; `mutants of definitions`: those of files in specs/;
 `calls that allocate`, `calls that do not allocate`: the lines of crates/refusals/stdin; `runs`, `runs of FOLDER`: the
-runs below runs/; `lists of FOLDER`, and `WORD lines of FOLDER` for other first words: what its runs of `nlshow` have as
-standard input.
+runs below runs/; `lists`, and `WORD lines` for other first words, each also `of FOLDER`: what the runs of `nlshow` have
+as standard input.
 
 The last line is 'N passed, M failed', where each rule counts once for each page, and the status 0 only if all passed.
 """
@@ -50,27 +52,25 @@ sys.dont_write_bytecode = True
 sys.path.insert(0, os.path.dirname(os.path.realpath(__file__)))
 import families  # noqa: E402
 import inventories  # noqa: E402
+import sets  # noqa: E402
 from runs import is_run, runs_of  # noqa: E402
 
 ROOT = os.path.dirname(os.path.dirname(os.path.realpath(__file__)))
-PAGES = re.compile(r"(README|CONTRIBUTING|CHANGELOG)\.md|docs/(proofs/)?[^/]+\.md|(bench|tools|extra|crates/[^/]+)/README\.md")
-# The most words that a page may have. Any other README.md below the top has SMALL_BUDGET, and CHANGELOG.md has none.
-BUDGETS = {
-    "README.md": 1220, "CONTRIBUTING.md": 2045, "bench/README.md": 580, "docs/families.md": 470, "docs/c.md": 1490, "docs/ARCHITECTURE.md": 1635,
-    "docs/MAP.md": 85, "docs/json.md": 1175,
-    "docs/messages.md": 760, "docs/programs.md": 2245, "docs/python.md": 1090, "docs/rattle.md": 1850,
-    "docs/rust.md": 1130, "docs/proofs/ASSURANCE.md": 1195, "docs/proofs/CLAIMS.md": 3300,
-    "docs/DECISIONS.md": 5000, "docs/DIFFERENCES.md": 2140, "docs/proofs/MODEL.md": 3805,
-}  # fmt: skip
-SMALL_BUDGET = 600
-HISTORY, COMPARISON, CLAIMS = "CHANGELOG.md", "docs/DIFFERENCES.md", "docs/proofs/CLAIMS.md"
+PAGES = re.compile(
+    r"(README|CONTRIBUTING|CHANGELOG)\.md|docs/((proofs/)?[^/]+\.md|nl(show|route)\.1)|(bench|tools|extra|(bindings|crates)/[^/]+)/README\.md"
+)
+# The most words that all pages may have, but for the history, and the most for that.
+TOTAL, HISTORY_WORDS = 29_120, 4_920
+HISTORY, COMPARISON = "CHANGELOG.md", "docs/DIFFERENCES.md"
+# A page that tools/made.py writes.
+MADE = "docs/families.md"
 SOURCES = (".rt", ".antt", ".h", ".c", ".rs", ".py", ".sh")
 SUFFIXES = (".rt", ".antt", ".py", ".md", ".h", ".sh", ".edit", ".edits")
-# Paths that are not of this tree: of Linux and C, of Cargo projects, of what tools make, of the kit's pages, and of a
-# crate of the reader.
+# Paths that are not of this tree: of Linux and C, of Cargo projects, of what tools make, of releases, of the kit's pages, and
+# of a crate of the reader.
 ELSEWHERE = re.compile(
     r"(?!.*nlroute).*\.h|(drivers|net|Documentation|include/(uapi|linux|net))(/.*)?"
-    r"|(.*/)?(main|build|lib)\.rs|(.*/)?(out|target)(/.*)?|(crates/)?mine(/.*)?"
+    r"|(.*/)?(main|build|lib)\.rs|(.*/)?(out|target)(/.*)?|licen[cs]es/CRATES|(crates/)?mine(/.*)?"
     r"|(.*/)?(ANTT|CONTRACTS|FIRST_PROOFS|GENERIC|LANGUAGE|READING|SHORTER_PROOFS|START|START-HERE)\.md"
 )
 # Names of std, of C, of jq, of the kit and of Linux.
@@ -89,8 +89,6 @@ HEADING = re.compile(r"^ {0,3}#{1,6}\s+(.*?)\s*#*\s*$", re.MULTILINE)
 LINK = re.compile(r"\]\(\s*<?([^()\s<>]+)")
 DOTS = re.compile(r"\s*\.\.\.?\s*")
 GAP = re.compile(r"(?:^|\s)(?:\.\.\.?|…)(?:\s|$)")
-CLAUSE = re.compile(r"(\S+ {2,})((?:–|[a-z_]+) {2,})\S.*")
-ROW = re.compile(r" *(\d+)  ([A-Z]+_\w+)  +(\w+)  +([^:,]+).*")
 ROW_OF_CODE = re.compile(r"\b([A-Z]+_\w+) = (\d+)(?: \| \w+)?, (\w+)(?:\([\w, ]+\))?(?:: [^;]*?( as \w+)?)?;")
 ENUM = re.compile(r"((?:^///.*\n)+)(?:#\[.*\n)*pub enum (\w+) \{\n((?: .*\n|\n)*)", re.MULTILINE)
 TABLE_OF_ENUM = re.compile(r"^impl (?:Meaning|NestedAttribute) for (\w+) \{\n(?: .*\n|\n)*? +ghost (?:table|rows) = \{ (\w+) \}", re.MULTILINE)
@@ -110,7 +108,9 @@ class Page:
     `marks` has the comments that begin with `from`, with the lines of each and of the block below it, or 0."""
 
     def __init__(self, text, path):
-        self.lines, self.path, self.folder, self.blocks = text.split("\n"), path, posixpath.dirname(path), {}
+        self.source, self.path, self.folder, self.blocks = text, path, posixpath.dirname(path), {}
+        self.is_manual = path.endswith(".1")
+        self.lines = (of_manual(text) if self.is_manual else text).split("\n")
         self.prose = "\n".join(self.lines_outside())
         found = [*CODE_OR_COMMENT.finditer(self.prose)]
         # (in a row of a table, `\|` is `|`)
@@ -167,6 +167,23 @@ class Page:
         return found
 
 
+def of_manual(text):
+    """A man page as a page with the same lines."""
+    lines = []
+    for line in text.split("\n"):
+        if line.startswith('.\\"'):
+            line = f"<!-- {line[3:].strip()} -->"
+        elif line in (".EX", ".EE"):
+            line = "```console" if line == ".EX" else "```"
+        elif not line.startswith((".SH", ".SS", ".TH")):
+            line = re.sub(r"^\.[A-Z]+ ?", "", re.sub(r"\\f[A-Z]", "", line))
+            line = line.replace("\\-", "-").replace("\\(dq", '"').replace("\\(oq", "‘").replace("\\(cq", "’")
+            line = re.sub(r"(?<![\w/.-])(nlshow|nlroute) \((\d)\)", r"[\1](\1.\2)", line)
+            line = re.sub(r"(?<![\w/.\]()-])[\w.-]*(?:[a-z]_[a-z]|[a-z][A-Z]|\w/\w)[\w./-]*\w", r"`\g<0>`", line)
+        lines.append(line)
+    return "\n".join(lines)
+
+
 class Tree:
     """The files and folders of the repository, except those that tools make."""
 
@@ -177,6 +194,10 @@ class Tree:
             inside = at[len(root) :].lstrip("/") + "/" * (at != root)
             self.files += [inside + it for it in files_here]
             self.paths |= {inside + it for it in [*files_here, *folders]}
+
+    def pages(self):
+        """The paths of the pages, in order."""
+        return sorted(filter(PAGES.fullmatch, self.files))
 
     def data(self, path):
         """The bytes of a file; nothing if there is none."""
@@ -211,15 +232,6 @@ class Tree:
         return {it: " ".join(self.text(it).split()) for it in found}
 
     @functools.cached_property
-    def heads(self):
-        """The functions by name: the text of the file, and that from `fn` on, up to the next one."""
-        heads = {}
-        for text in self.sources.values():
-            for head in re.split(r"\bfn (?=\w)", text)[1:]:
-                heads.setdefault(re.match(r"\w+", head)[0], []).append((text, head))
-        return heads
-
-    @functools.cached_property
     def modules(self):
         """The names of crates and modules."""
         parts = [it.removesuffix(".rt").split("/")[1:] for it in self.sources]
@@ -227,8 +239,9 @@ class Tree:
 
     @functools.cached_property
     def functions(self):
-        """The names of functions and macros, and of what the headers declare."""
+        """The names of functions and macros, of the bindings too, and of what the headers declare."""
         declared = [re.findall(r"\bnlroute_\w+", text) for text in self.of(r".*/nlroute(_requests)?\.h")]
+        declared += [re.findall(r"\b(?:fn|def) (\w+)", text) for text in self.of(r"bindings/.*\.(rs|py)")]
         return {name for found in [*map(FN.findall, self.sources.values()), *declared] for name in found}
 
     @functools.cached_property
@@ -296,7 +309,7 @@ class Tree:
                 lines = run.stdin.decode(errors="replace").split("\n") if run.program == "nlshow" else []
                 words = [it.split()[0] for it in lines if it.strip() and it[0] != "#"]
                 kinds = ["lists" if it in sets else f"{it} lines" for it in words]
-                numbers.update(["runs", *(f"{it} of {folder}" for it in ["runs", *kinds])])
+                numbers.update([*kinds, "runs", *(f"{it} of {folder}" for it in ["runs", *kinds])])
         return numbers
 
 
@@ -357,60 +370,6 @@ def clauses(page, tree):
             pattern = re.compile(".*?".join(re.escape(it.strip()) for it in GAP.split(code)))
             if not any(map(pattern.search, tree.sources.values())):
                 yield page.line(at), f"no .rt file has the clause `{code}`"
-    for line, name, promises in clause_tables(page) if page.path == CLAIMS else []:
-        yield from unlike_contract(line, name, promises, tree)
-
-
-def clause_tables(page):
-    """The functions of tables of clauses: line, name, and the rows of each, which are line, clause and promise."""
-    for number, block in page.blocks.items():
-        columns, found = CLAUSE.fullmatch(block[0] if block else ""), []
-        for line, text in enumerate(block if columns else [], number + 1):
-            name, clause = text[: columns.end(1)].strip(), text[columns.end(1) : columns.end(2)].strip()
-            if name:
-                found.append((line, name, []))
-            if clause:
-                found[-1][2].append([line, clause.strip("–"), ""])
-            promise = found[-1][2][-1]
-            promise[2] = " ".join([promise[2], *text[columns.end(2) :].split()]).strip()
-        yield from found
-
-
-def head_of(name, promises, tree):
-    """The head of the function that a table of clauses names: of several, that with most of these promises, and then with
-    the fewest others."""
-    of, _, last = name.rpartition("::")
-    of = "" if of in tree.modules else of or last[:1].isupper() and last
-    heads = [head for text, head in tree.heads.get(last, []) if not of or re.search(rf"\b{of}\b", text)]
-    wanted = wanted_of(promises)
-    return max(heads, key=lambda it: (sum(row in it for row in wanted), -clauses_in(it)), default="")
-
-
-def wanted_of(promises):
-    """The rows of a function, as its contract has them."""
-    return [f"ensures {clause + ' ' * bool(clause)}{{ {promise} }}" for _, clause, promise in promises]
-
-
-def clauses_in(head):
-    """How many clauses a function has."""
-    return len(re.findall(r"\bensures \w* ?\{", head))
-
-
-def is_ghost(clause, promise, tree):
-    """Whether a type has this ghost item."""
-    ghosts = [f"ghost {clause}{sign} {{ {promise} }}" for sign in (":", " =")]
-    return any(ghost in text for ghost in ghosts for text in tree.sources.values())
-
-
-def unlike_contract(line, name, promises, tree):
-    """How the rows of a function differ from its contract."""
-    head, wanted = head_of(name, promises, tree), wanted_of(promises)
-    missing = [row for row, text in zip(promises, wanted) if text not in head]
-    for at, clause, promise in missing:
-        if not is_ghost(clause, promise, tree):
-            yield at, f"no contract of `{name}` has the clause {clause or '–'} as the page has it"
-    if not missing and clauses_in(head) > len(promises):
-        yield line, f"`{name}` has {clauses_in(head)} clauses, and the page has {len(promises)}"
 
 
 def links(page, tree):
@@ -468,32 +427,6 @@ def names(page, tree):
                 yield line, f"no source has the name `{name}`"
 
 
-def rows(page, tree):
-    """The lines of attribute types that differ from the sources."""
-    above = page.prose.split("\n")
-    for line, text in page.drawings():
-        found = ROW.fullmatch(text)
-        if not found:
-            continue
-        number, name, variant, shape = (it.strip(" )") for it in found.groups())
-        shape, _, unit = shape.partition(" as ")
-        row = f"{number} {name} {variant}" + f" as {unit}" * bool(unit)
-        if row not in tree.rows:
-            there = sorted(it for it in tree.rows if it.split()[1] == name or it.split()[2] == variant)
-            yield line, f"src/ has no row `{row}`{', but ' * bool(there)}{', '.join(there)}"
-        heading = next((it for it in reversed(above[:line]) if it.startswith("#")), "")
-        for table in [it for it in re.findall(r"`(\w+)`", heading) if it in tree.tables]:
-            its_name, its_unit, its_shape = tree.tables[table].get(number, ("no row", "", ""))
-            fits = shape.startswith("as ") or re.match(rf"{re.escape(shape)}\b", its_shape)
-            way = "".join(re.findall(r", (\w+-only)$", text))
-            said = tree.ways.get(table, {}).get(name, "")
-            if way != said:
-                yield line, f"of {name}, the comment of its variant says `{said}`"
-            if (its_name, its_unit) != (name, unit) or not fits:
-                wanted = f"{its_name} {its_shape}".strip() + f" as {its_unit}" * bool(its_unit)
-                yield line, f"row {number} of {table} is `{wanted}`"
-
-
 def counts(page, tree):
     """The marked numbers that are not the tree's, and the numbers of tests and mutants without a mark."""
     for offset, comment in page.comments:
@@ -514,30 +447,49 @@ def counts(page, tree):
         yield page.line(found.start()), f"'{number}' has no mark `<!-- count: NAME -->` after the number"
 
 
-def budget(page, _):
-    """Whether the page has more words than it may have."""
-    most = BUDGETS.get(page.path, SMALL_BUDGET if page.path.endswith("/README.md") else None)
-    number = len(re.sub(r"(?s)<!--.*?-->", " ", page.prose).split()) if page.path != HISTORY else 0
-    if most is None and page.path != HISTORY:
-        yield 1, "the page has no budget in tools/pages.py"
-    elif number > (most or 0):
-        yield 1, f"the page has {number:,} words, and its budget is {most:,}"
+RULES = [samples, clauses, links, files, functions, names, counts]
 
 
-RULES = [samples, clauses, links, files, functions, names, rows, counts, budget]
+def words(page):
+    """How many words a page has, besides code blocks, comments, and what tools write."""
+    if page.path == MADE:
+        return 0
+    text = "\n".join(it for it in page.source.split("\n") if not it.startswith('.\\"')) if page.is_manual else page.prose
+    text = re.sub(r"<!-- made: .*? -->\n+(?:\|.*(?:\n|$))+", " ", text)
+    return len(re.sub(r"(?s)<!--.*?-->", " ", text).split())
+
+
+def too_long(tree):
+    """Whether all pages have too many words, or the history has."""
+    found = {it: words(tree.page(it)) for it in tree.pages()}
+    history = found.pop(HISTORY, 0)
+    if sum(found.values()) > TOTAL:
+        yield "README.md", 1, f"the pages have {sum(found.values()):,} words, and may have {TOTAL:,}: tools/pages.py --words"
+    if history > HISTORY_WORDS:
+        yield HISTORY, 1, f"it has {history:,} words, and may have {HISTORY_WORDS:,}"
+
+
+def print_words(tree):
+    """Prints how many words each page has, and all."""
+    found = {it: words(tree.page(it)) for it in tree.pages()}
+    for path, number in found.items():
+        print(f"{number:>7,} {path}")
+    print(f"{sum(found.values()) - found.get(HISTORY, 0):>7,} without {HISTORY}, of {TOTAL:,}")
 
 
 def check(root, named):
     """Checks the pages, and prints what is wrong, and how many checks passed and failed."""
     tree, results = Tree(root), []
-    for path in named or sorted(filter(PAGES.fullmatch, tree.files)):
+    for path in named or tree.pages():
         if path in tree.files:
             results += [[(path, *it) for it in rule(tree.page(path), tree)] for rule in RULES]
         else:
             results.append([(path, 1, "there is no such page")])
     if not named:
         results.append([*families.disagreements(tree.text_or_none)])
+        results.append([*sets.unlike_comments(tree.files, tree.text, tree.ways)])
         results.append([*inventories.missing(tree.files, tree.text)])
+        results.append([*too_long(tree)])
     for path, line, message in sorted(it for wrong in results for it in wrong):
         print(f"{path}:{line}: {message}")
     print(f"{results.count([])} passed, {len(results) - results.count([])} failed")
@@ -545,4 +497,6 @@ def check(root, named):
 
 
 if __name__ == "__main__":
+    if sys.argv[1:] == ["--words"]:
+        sys.exit(print_words(Tree(ROOT)))
     sys.exit(__doc__ if any(it.startswith("-") for it in sys.argv[1:]) else check(ROOT, sys.argv[1:]))

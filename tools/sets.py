@@ -1,4 +1,4 @@
-"""The attribute sets of sets/. For each, tools/made.py writes the table and `means` in specs/, rows of MODEL.md, and a run.
+"""The attribute sets of sets/. For each, tools/made.py writes the table and `means` in specs/, and a run.
 
 sets/NAME.tsv has a set, or a nested list, as the contracts describe it. Write it from the kernel's headers, the
 `nla_policy` and the fill function of the driver. The rows of src/ are written without it, and the prover compares the two.
@@ -17,10 +17,10 @@ Each other line is an attribute type. Tabs are between its cells, of which the l
     size        of a number with names, or a set of flags: its bytes; of a struct without a Layout: its Lengths, as `AtLeast 4`;
                 of Counters: the bytes of each number, or `i32`; of a held list: its set, if its type alone says which it is
     quantity    if its number counts something
-    way         `read-only`, if the kernel sends it and does not take it in a request; `write-only`, if it only takes it
+    way         `read-only`, if the kernel sends it and does not take it in a request; `write-only`, if it only takes it. The
+                comment of the variant has to say the same
 
-specs/NAME.antt of the crate is written as a whole, and in MODEL.md the rows below the heading of the set, which is added at
-the end of all if it is missing. What it needs of an enum, a set of flags or a struct `T` is written by
+specs/NAME.antt of the crate is written as a whole. What it needs of an enum, a set of flags or a struct `T` is written by
 hand in other files of specs/. Its name begins with words of `T`; of several, that with most is taken: hsr_protocol_names.
 
 runs/sets/NAME has a list with each attribute type once. The bytes of each payload differ. What the programs have to print
@@ -35,7 +35,6 @@ import struct
 
 PAYLOADS = "crates/link_base/specs/Payloads.antt"
 LAYOUTS = "crates/link_base/specs/Forms.antt"
-MODEL = "docs/proofs/MODEL.md"
 Row = collections.namedtuple("Row", "at number name variant fields its_class size quantity way word value")
 # For each class, the word of tables, and the value that `means` gives. {n} and {bits} are the size, {0} and {1} the fields,
 # and T_names stands for a definition of the T of the class.
@@ -231,32 +230,18 @@ abbrev pub {it.means} : {it.enum} → {value}
 """
 
 
-# ---- docs/proofs/MODEL.md
+# ---- comments of variants
 
 
-def shape(it):
-    """What the page says of the payloads of a row."""
-    lists = {"Inner": f"Nested {it.word}", "Listed": f"Addresses {it.word}"}
-    words = re.sub(r"[()]|\b[a-z]+\.", "", it.word).split()
-    name = lists.get(it.value.split()[0]) or " ".join(words[: 1 + ("struct" in words[0])])
-    return name + f" as {it.quantity}" * bool(it.quantity)
-
-
-def in_model(it, page):
-    """The page with the rows below the heading of the set. What follows a colon or a comma stays."""
-    head = f"`{it.enum}`, `{it.table}`\n\n```text\n"
-    if head not in page:
-        *_, last = re.finditer(r"^### .*_(?:table|rows)`\n\n```text\n(?:(?!```).*\n)*```\n\n", page, re.MULTILINE)
-        page = f"{page[: last.end()]}### {it.title.rstrip('.')}: {head}```\n\n{page[last.end() :]}"
-    above, _, below = page.partition(head)
-    old, end, rest = below.partition("```")
-    old = re.sub(r", \w+-only$", "", old, flags=re.MULTILINE)
-    more = dict(re.findall(r"^ *\d+  (\w+) [^:,\n]*([:,].*)$", old, re.MULTILINE))
-    texts = [shape(row) + more.get(row.name, "") + f", {row.way}" * bool(row.way) for row in it.rows]
-    columns = [(str(row.number), row.name, row.variant, text) for row, text in zip(it.rows, texts)]
-    first, second, third = (max(len(row[at]) for row in columns) for at in range(3))
-    lines = [f"{a:>{first}}  {b:<{second}}  {c:<{third}}  {d}\n" for a, b, c, d in columns]
-    return "".join([above, head, *lines, end, rest])
+def unlike_comments(files, text_of, ways):
+    """The lines whose way is not that of the comment of the variant: path, line and message. `ways` has those of comments,
+    by tables and names."""
+    for path in sorted(it for it in files if re.fullmatch(r"sets/\w+\.tsv", it)):
+        it = Set(path, files, text_of)
+        for row in it.rows:
+            said = ways.get(it.table, {}).get(row.name, "")
+            if said != row.way:
+                yield path, int(row.at.rpartition(":")[2]), f"of {row.name}, the comment of its variant says `{said}`"
 
 
 # ---- runs/sets/
@@ -378,11 +363,11 @@ same
 
 def written(files, text_of):
     """The texts of the files that are made from sets/, by their paths. A line that is not right is a ValueError."""
-    made = {MODEL: text_of(MODEL)}
+    made = {}
     paths = sorted(it for it in files if re.fullmatch(r"sets/\w+\.tsv", it))
     # (nested lists first, since the tables of sets name theirs)
     for path in sorted(paths, key=lambda it: "\n# list " not in text_of(it)):
         it = Set(path, [*files, *made], lambda path: made.get(path) or text_of(path))
-        made |= {it.file: specs(it), MODEL: in_model(it, made[MODEL])}
+        made |= {it.file: specs(it)}
         made |= {f"runs/sets/{it.name}": run(it)} if it.kind == "set" and any(map(sample, it.rows)) else {}
     return made

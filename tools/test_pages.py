@@ -10,9 +10,11 @@ import io
 import os
 import sys
 import tempfile
+import unittest.mock
 
 sys.dont_write_bytecode = True
 sys.path.insert(0, os.path.dirname(os.path.realpath(__file__)))
+import contracts  # noqa: E402
 import families  # noqa: E402
 import inventories  # noqa: E402
 import made  # noqa: E402
@@ -50,40 +52,30 @@ It has the clause `ensures length { result ≡ 2 }`, and `requires { .. }`.
   --> of definitions, 1<!-- count: must-fail edits --> must-fail edit. The other names are `IsPair`, `pair_delay` and `nla_type`.
 - 1,001<!-- count: calls that allocate --> calls allocate, 1<!-- count: calls that do not allocate --> does not.
 - 2<!-- count: lists of plain --> lists, one<!-- count: check lines of plain --> `check`, 7<!-- count: runs --> runs,
-  1<!-- count: message lines of plain --> message, 2<!-- count: tap lines of plain --> others.
+  1<!-- count: message lines of plain --> message, 2<!-- count: tap lines --> others.
 
 ```text
 src/lib.rt   len_of: IsPair, IsPairPair, NAME.rt, ./made/by_rt.rt
 ```
 
-### Pairs: `Pair`, `pair_table`
-
-```text
-1  PAIR_AGE   Age   u32 as Seconds: of both
-2  PAIR_ENDS  Ends  Nested false end_rows
-3  PAIR_KIND  Kind  as Age
-```
-
-### `end_rows`
-
-```text
-1  END_INDEX  Index  u32_enum as Index
-```
+<!-- made: tools/pairs.py -->
+| One | Two |
+|---|---|
+| a | b |
 """
 CALLING = "# Calling\n\n## What *is* a `Pair`?\n\n## What is a pair\n\n[Back](../README.md), [down](../crates/pairs).\n"
-LEFT = 1850 - len(CALLING.split())
-CLAIMS = """\
-# Claims
-
-```text
-Pair::len_of   length  result
-                       ≡ 2
-Small          small   λ s. s < 2
-```
-
-```text
-Small::len_of  –       result ≡ 1
-```
+MANUAL = """\
+.TH PAIRS 1
+.TP
+.BR dsa ", " vlan
+.\\" not_a_name
+Calls \\fBlen_of\\fP,
+of src/lib.rt and a\\-b.
+.BR nlroute (1)
+.\\" from: crates/pairs/src/lib.rt
+.EX
+let one = 1;
+.EE
 """
 SOURCE = """\
 pub struct Pair(u8, u8);
@@ -108,6 +100,50 @@ pub trait Small {
         ensures { result ≡ 1 };
 }
 """
+OWNING = """\
+pub trait Owner {
+    ghost table: { Table };
+    ghost lawful: { IsLawful table };
+}
+
+impl<'a> Owner for Pair<'a> {
+    ghost table = { pair_table };
+    ghost lawful = { proof };
+
+    fn plain(&self) -> u8 { 1 }
+}
+
+impl From<u8> for Pair<'_> {
+    ghost from_gives = { λ a b. a ≡ b };
+}
+
+impl Pair<'_> {
+    /// Nothing is promised.
+    pub const fn bare() {}
+
+    fn hidden() ensures { result ≡ 1 } { 1 }
+}
+
+#[unsafe(no_mangle)]
+pub extern "C" fn free() -> u8
+    ensures { result ≡ 1 }
+{
+    1
+}
+
+macro_rules! more {
+    () => { pub fn made() {} }
+}
+"""
+Rows = collections.namedtuple("Rows", "rows tables ways")
+ROWED = Rows(
+    {"1 PAIR_AGE Age as Seconds", "12 PAIR_ENDS Ends", "1 END_INDEX Index"},
+    {"pair_table": {"1": ("PAIR_AGE", "Seconds", "u32"), "12": ("PAIR_ENDS", "", "Nested false end_rows")},
+     "end_rows": {"1": ("END_INDEX", "", "u32")}, "other": {"1": ("OTHER", "", "u8")}},
+    {"pair_table": {"PAIR_AGE": "read-only"}},
+)  # fmt: skip
+PAIR_ROWS = ["pair_table", " 1  PAIR_AGE   Age   u32 as Seconds, read-only", "12  PAIR_ENDS  Ends  Nested false end_rows", ""]
+END_ROWS = ["end_rows", "1  END_INDEX  Index  u32", ""]
 KINDS = """\
 rows! {
     PAIR_AGE = 1, Age: u32 as Seconds;
@@ -133,14 +169,21 @@ FAMILIES = """\
             Dsa   "dsa"   InfoDsa  0  [InfoKind (b"dsa")]
             Vlan  "vlan"  InfoVlan 1  [BridgeAttribute (IFLA_VLAN)]
 """
+# Pages with a number of words, and what is said of all pages.
+LONG = [
+    ({"README.md": "a b\n\n```text\nc\n```\n\n<!-- d -->\n", "docs/x.1": "e " * 9, "docs/nlshow.1": '.B f\n.\\" g\n', "docs/families.md": "h " * 9}, []),
+    ({"README.md": "a b", "docs/y.md": "<!-- made: x -->\n| a |\n| b |\n\nc\n", "bindings/x/README.md": "d e"},
+     ["README.md:1: the pages have 5 words, and may have 4: tools/pages.py --words"]),
+    ({"README.md": "a b c d", "CHANGELOG.md": "e f g"}, []),
+    ({"CHANGELOG.md": "a b c d"}, ["CHANGELOG.md:1: it has 4 words, and may have 3"]),
+]
 LIB, SPEC, MAN = "crates/pairs/src/lib.rt", "crates/pairs/specs/Pair.antt", "docs/nlroute.1"
 HEADER, RUN = "crates/nlroute_ffi/include/nlroute.h", "runs/plain/more/vlan"
 ROUTE = "crates/netlink_packet_route"
 TREE = {
     "README.md": PAGE,
-    "CHANGELOG.md": "# Changes\n\n12 tests, 13 mutants of `old_name`.\n" + 2000 * "word ",
+    "CHANGELOG.md": "# Changes\n\n12 tests, 13 mutants of `old_name`.\n",
     "docs/rattle.md": CALLING,
-    "docs/proofs/CLAIMS.md": CLAIMS,
     "docs/DIFFERENCES.md": "# Others\n\n`other_name`\n",
     LIB: SOURCE,
     SPEC: TABLES,
@@ -155,7 +198,7 @@ TREE = {
     f"{ROUTE}/src/family.rt": FAMILIES,
     f"{ROUTE}/specs/Family.antt": "use Rattle.link_pairs.specs.Pair.{pair_table}\n",
     f"{ROUTE}/specs/Lib.antt": "pub use Rattle.link_pairs.specs.Pair\n",
-    MAN: ".TP\n.BR dsa \", \" vlan\n",
+    MAN: MANUAL,
     "runs/plain/lists": "program: nlshow\n\n# Lists\n> dsa 00\ndsa 00\n\n> check dsa\n< message 00\n< tap\n> tap\n",
     RUN: "program: nlshow\n\n> vlan 00\n",
     "runs/plain/other": "program: nlroute\n\n< dsa 00\n",
@@ -170,9 +213,7 @@ DIFFERS = f"11: {NO_PART}: its line 11 differs"
 MARK, NO_MARK = "<!-- from: crates/pairs/src/lib.rt -->", "5: `{}` is not a mark `<!-- from: PATH -->` above a code block"
 NO_LINK, NO_FILE, NO_NAME = "3: the link leads to {}, which does not exist", "there is no file `{}`", "no source has the name `{}`"
 NO_CLAUSE = "15: no .rt file has the clause `{}`"
-NO_PROMISE = "{}: no contract of `{}` has the clause {} as the page has it"
 NOT_COUNT = "{} is not the count of {}"
-IN_CODE, IN_TABLE = "{}: src/ has no row `{}`, but {}", "{}: row {} is `{}`"
 NO_SET = "1: it does not have vlan as families! has it: no text is as {}"
 # For each file that is changed: its old text, the new one, and what is then found. If the page of a finding is not
 # named, it is README.md.
@@ -190,12 +231,6 @@ CASES = [
     ("README.md", "```rust\n", "A line.\n\n```rust\n", NO_MARK.format(MARK)),
     ("README.md", "result ≡ 2 }`", "result ≡ 3 }`", NO_CLAUSE.format("ensures length { result ≡ 3 }")),
     ("README.md", "requires { .. }`", "requires { .. } ensures one`", NO_CLAUSE.format("requires { .. } ensures one")),
-    ("docs/proofs/CLAIMS.md", "≡ 2", "≡ 3", "docs/proofs/CLAIMS.md:" + NO_PROMISE.format(4, "Pair::len_of", "length")),
-    ("docs/proofs/CLAIMS.md", "length ", "longer ", "docs/proofs/CLAIMS.md:" + NO_PROMISE.format(4, "Pair::len_of", "longer")),
-    ("docs/proofs/CLAIMS.md", "s < 2", "s < 3", "docs/proofs/CLAIMS.md:" + NO_PROMISE.format(6, "Small", "small")),
-    ("docs/proofs/CLAIMS.md", "≡ 1", "≡ 2", "docs/proofs/CLAIMS.md:" + NO_PROMISE.format(10, "Small::len_of", "–")),
-    ("crates/pairs/src/small.rt", "≡ 1 }", "≡ 1 } ensures more { 0 < result }",
-     "docs/proofs/CLAIMS.md:10: `Small::len_of` has 2 clauses, and the page has 1"),
     ("README.md", "docs/rattle.md#", "docs/CALLS.md#", NO_LINK.format("docs/CALLS.md")),
     ("README.md", "(crates/pairs/src/lib.rt)", "(crates/pairs/out/made.md)", NO_LINK.format("crates/pairs/out/made.md")),
     ("docs/rattle.md", "/pairs", "/pair", "docs/rattle.md:7" + NO_LINK.format("crates/pair")[1:]),
@@ -214,15 +249,6 @@ CASES = [
     ("README.md", "len_of: ", "len_off: ", "29: " + NO_NAME.format("len_off")),
     ("runs/json/pairs", "pair_delay", "pair_age", "23: " + NO_NAME.format("pair_delay")),
     ("README.md", "IsPairPair", "IsPairPairs", "29: " + NO_NAME.format("IsPairPairs")),
-    ("README.md", "1  PAIR_AGE ", "2  PAIR_AGE ", IN_CODE.format(35, "2 PAIR_AGE Age as Seconds", "1 PAIR_AGE Age as Seconds"),
-     IN_TABLE.format(35, "2 of pair_table", "PAIR_ENDS Nested false end_rows")),
-    ("README.md", "  Ends ", "  Kind ", IN_CODE.format(36, "2 PAIR_ENDS Kind", "2 PAIR_ENDS Ends, 3 PAIR_KIND Kind")),
-    ("README.md", "Nested false", "Nested true", IN_TABLE.format(36, "2 of pair_table", "PAIR_ENDS Nested false end_rows")),
-    ("README.md", "u32 as Seconds", "u32", IN_CODE.format(35, "1 PAIR_AGE Age", "1 PAIR_AGE Age as Seconds"),
-     IN_TABLE.format(35, "1 of pair_table", "PAIR_AGE u32 as Seconds")),
-    (SPEC, "row_in Index", "row_in Seconds", IN_TABLE.format(43, "1 of end_rows", "END_INDEX u32_enum ends as Seconds")),
-    (SPEC, "leaf_row_in Index 1", "leaf_row_in Index 2", IN_TABLE.format(43, "1 of end_rows", "no row")),
-    ("crates/pairs/src/kinds.rt", " as Index", "", IN_CODE.format(43, "1 END_INDEX Index as Index", "1 END_INDEX Index")),
     ("README.md", "- 2<!-- count: t", "- 3<!-- count: t", "22: " + NOT_COUNT.format(3, "tests of pairs, which is 2")),
     ("README.md", "three<", "two<", "22: " + NOT_COUNT.format("two", "mutants, which is 3")),
     ("README.md", "1,001", "1,002", "24: " + NOT_COUNT.format("1,002", "calls that allocate, which is 1,001")),
@@ -238,11 +264,10 @@ CASES = [
     ("README.md", "three<", "some<", "22: there is no number before `<!-- count: mutants -->`"),
     *(("README.md", "The other names", it, f"23: '{it}' has no mark `<!-- count: NAME -->` after the number")
       for it in ("8 tests", "275 mutants", "1 must-fail edit")),
-    ("docs/rattle.md", CALLING, CALLING + LEFT * "word "),
-    ("docs/rattle.md", CALLING, CALLING + (LEFT + 1) * "word ", "docs/rattle.md:1: the page has 1,851 words, and its budget is 1,850"),
-    ("docs/rattle.md", CALLING, CALLING + LEFT * "word " + "\n\n```text\nword\n```\n\n<!-- word -->\n"),
-    ("extra/README.md", "", "word " * 601, "extra/README.md:1: the page has 601 words, and its budget is 600"),
-    ("docs/NEW.md", "", "# New\n", "docs/NEW.md:1: the page has no budget in tools/pages.py"),
+    (MAN, "len_of", "len_off", f"{MAN}:5: {NO_NAME.format('len_off')}"),
+    (MAN, "of src/lib", "of src/lip", f"{MAN}:6: {NO_FILE.format('src/lip.rt')}"),
+    (MAN, ".BR nlroute (1)", ".BR nlroute (3)", f"{MAN}:7: the link leads to docs/nlroute.3, which does not exist"),
+    (MAN, "let one = 1", "let one = 2", f"{MAN}:10: {NO_PART}"),
     (MAN, "vlan", "van", f"{MAN}:{NO_SET.format(LISTED[MAN])}"),
     (RUN, "> vlan 00", "> vlan zz", f"runs/plain/:{NO_SET.format(LISTED['runs/plain/'])}"),
     ("runs/nlroute/sets", "vlan", "vlan x", f"runs/nlroute/:{NO_SET.format(LISTED['runs/nlroute/'])}"),
@@ -260,8 +285,7 @@ KEPT = {
     "crates.txt": "# Crates.\nlink_pairs: bstr\nprogram:\n", "docs/ARCHITECTURE.md": "`link_pairs`, `program`, pairs/\n",
     ".ci/run": "before=1\npart rt ci\n    part tools/runs.py\n", "CONTRIBUTING.md": "`rt ci`, then `runs.py`. `a.py`, `b.sh`\n",
     HEADER: "#define NLROUTE_VERSION 0x00010au\nbool nlroute_is_pair(void);\n", "docs/c.md": "`nlroute_is_pair(..)`\n",
-    "crates/link_pairs/src/lib.rt": "    pub fn pair()\npub(crate) fn hidden()\n", "docs/proofs/CLAIMS.md": "Pair::pair\n",
-    "crates/link_pairs/src/tests/all.rt": "pub fn tested()\n", "README.md": "Version: 0.1.10, unreleased.\n",
+    "README.md": "Version: 0.1.10, unreleased.\n",
     "docs/proofs/ASSURANCE.md": "`bstr` (names)\n", "runs/pairs/one": "", "runs/README": "", "bench/README.md": "`run.py`, `out`\n",
     "tools/a.py": "", "extra/b.sh": "", "bench/run.py": "", "bench/out/one": "",
 }  # fmt: skip
@@ -269,7 +293,6 @@ LACKING = [
     ("crates.txt", "program", "programs", "docs/ARCHITECTURE.md: it lacks the crate programs"),
     (".ci/run", "runs", "kinds", "CONTRIBUTING.md: it lacks the part of CI kinds.py"),
     (HEADER, "is_pair", "pair", "docs/c.md: it lacks the function nlroute_pair"),
-    ("docs/proofs/CLAIMS.md", "::pair", "::pairs", "docs/proofs/CLAIMS.md: it lacks the public function pair"),
     ("crates.txt", "bstr", "bstr hex", "docs/proofs/ASSURANCE.md: it lacks the crate of the kit hex"),
     ("docs/ARCHITECTURE.md", "pairs/", "", "docs/ARCHITECTURE.md: it lacks the folder of runs pairs"),
     ("CONTRIBUTING.md", "a.py", "a.sh", "CONTRIBUTING.md: it lacks the file a.py"),
@@ -315,7 +338,7 @@ enum nlroute_family {
 """),
     MAN: (".B a\nThe list is IFLA_INFO_DATA of a\n.BR a\nThe list is IFLA_INFO_SLAVE_DATA of a\n.B a\nThe list is A\n",
           '.BR dsa ", " hsr\nThe list is IFLA_INFO_DATA of a\n.B port\nThe list is IFLA_INFO_SLAVE_DATA of a\n.B a\nThe list is A\n'),
-    "README.md": ("They cover a](docs/families.md) b\n", "They cover DSA ports, ports, and HSR devices ([6 families](docs/families.md) b\n"),
+    "README.md": ("They cover a](docs/families.md) b\n", "They cover DSA ports, ports, and HSR devices ([6 attribute sets](docs/families.md) b\n"),
     **{it: ("link attributes, such as those of a. It has b\n",
             "link attributes, such as those of DSA ports, ports, and HSR devices. It has b\n") for it in BINDINGS},
     ANSWERS: (f"-- A\n{GOALS}\nold\n", f"-- A\n{GOALS}" + "".join(f"""
@@ -326,8 +349,6 @@ returns-in-{it}-clause-answer c = rw c.in-{it}.is c.rewrite_as{'' if it == 'Dsa'
         f'    [NLROUTE_{it.upper()}] = "{it}",\n' for it in ("dsa", "hsr", "port", "vlan", "all", "part")) + "};\n"),
     f"{ROUTE}/specs/Families.antt": ("-- A\nall_families =\n    old\n\n-- B\n", "-- A\nall_families =\n" + " ∷\n".join(
         f"    sets.{it}" for it in ("Dsa", "Hsr", "Port", "Vlan", "All", "Part")) + " ∷ []\n\n-- B\n"),
-    "docs/proofs/MODEL.md": ("### A: `InfoDsa`, `dsa_table`\n### B: `InfoVlan`, `vlan_table`\n### `InfoHsr`\n",
-                             "### DSA ports: `InfoDsa`, `dsa_table`\n### `IFLA_VLAN` in AF_BRIDGE messages: `InfoVlan`, `vlan_table`\n### `InfoHsr`\n"),
 }  # fmt: skip
 ROWS = "".join(f'family_row {it} = row (codes "{it.lower()}") 0 {it.lower()}_table\n' for it in ("Dsa", "Hsr", "Port", "Vlan"))
 
@@ -351,10 +372,20 @@ MADE = [
     (made.declared("NLROUTE_MUST_USE\nbool f(void);\n#define NLROUTE_A 1\n#ifdef X\n"), "bool f(void);\n#define NLROUTE_A 1"),
     (made.declared("static inline int f(int a)\n{\n    return a;\n}\n"), "int f(int a);"),
     (made.declared("#ifdef __cplusplus\n#define A b\n#else\n#define A c d\n#endif\n"), "#define A c d"),
-    (made.promises("f(a: A) requires { x } ensures { y {z} } ensures* w { v } ensures named { u } { body }"),
-     [("–", "y {z}"), ("named", "u")]),
-    ([*made.broken("one (two three) four", 16)], ["one (two three)", "four"]),
-    ([*made.broken("one", 16)], ["one"]),
+    (contracts.clauses("fn f(a: A) requires { x } ensures { y {z} } ensures* w { v } ensures named { u } { body; ensures { t } }"),
+     [("requires", "x"), ("–", "y {z}"), ("named", "u")]),
+    (contracts.of_file(SOURCE, []), [("Pair::len_of", [("requires", "IsPair self.now"), ("length", "result ≡ 2")])]),
+    (contracts.of_file(SMALL, []), [("Small", [("small", "λ s. s < 2")]), ("Small::len_of", [("–", "result ≡ 1")])]),
+    (contracts.of_file(OWNING, contracts.theorems([OWNING])), [
+        ("Owner", [("table", "Table"), ("lawful", "IsLawful table")]),
+        ("Pair as Owner", [("table", "pair_table")]), ("Pair as From<u8>", [("from_gives", "λ a b. a ≡ b")]),
+        ("Pair::bare", []), ("free", [("–", "result ≡ 1")])]),
+    ([*contracts.table([("f", [("–", "a")]), ("Pair::g", [("named", "b"), ("requires", "c")]), ("h", [])])],
+     ["f        –         a", "Pair::g  named     b", "         requires  c", "h                  no clause"]),
+    ([*contracts.broken("one (two three) four", 16)], ["one (two three)", "four"]),
+    ([*contracts.broken("one", 16)], ["one"]),
+    ([*contracts.rows(ROWED, ["pair"])], PAIR_ROWS + END_ROWS),
+    ([*contracts.rows(ROWED, [])], END_ROWS + PAIR_ROWS),
     (repeated(lambda it: it[0]), {path: it[1] for path, it in REPEATING.items()}),
     (repeated(lambda it: it[1]), {path: it[1] for path, it in REPEATING.items()}),
     ([(it["holders"], it["kinds"], it["in_messages"]) for it in families.families({families.LIST: COMMENTED}.get)][1:],
@@ -366,6 +397,8 @@ MADE = [
      f"{MAN}: 2 places are as {families.WRITTEN[1][1]}, and one has to be"),
     (made.counted("Two<!-- count: a -->, 1**<!-- count:\nb --> and 3<!-- count: c -->", collections.namedtuple("Tree", "counts")({"a": 2, "b": 1234})),
      "Two<!-- count: a -->, 1,234**<!-- count:\nb --> and 3<!-- count: c -->"),
+    (made.measured("a\n<!-- made: x.tsv: C, A -->\n```text\nold\n```\n", collections.namedtuple("Tree", "text")(lambda _: "n\tw\tA\tC\nx\tone\t1\t2.0\n")),
+     "a\n<!-- made: x.tsv: C, A -->\n```text\n       C  A\none  2.0  1\n```\n"),
     (made.capture("# One\n# two\n> message 01\nNo\n# three\n")[-40:-4], made.COOKED + b"\1\0\0\0\1\0\7\0One two\0\0\0\0\0"),
 ]  # fmt: skip
 
@@ -386,12 +419,17 @@ def failures():
     """What is not found as wanted, for each case, or None."""
     rules = len(pages.RULES)
     for named, wanted in (
-        ([], f"{5 * rules + 2} passed, 0 failed"),
+        ([], f"{5 * rules + 4} passed, 0 failed"),
         (["README.md", "docs/rattle.md"], f"{2 * rules} passed, 0 failed"),
         (["docs/proofs/MODEL.md"], "docs/proofs/MODEL.md:1: there is no such page\n0 passed, 1 failed"),
     ):
         found = "\n".join(said(TREE, *named)[0])
         yield None if found == wanted else f"{named}: {found}"
+    for tree, wanted in LONG:
+        with unittest.mock.patch.multiple(pages, TOTAL=4, HISTORY_WORDS=3):
+            *found, _ = said(tree)[0]
+        found = [it for it in found if " words" in it]
+        yield None if found == wanted else f"{tree}: {found}, not {wanted}"
     for found, wanted in MADE:
         yield None if found == wanted else f"{found!r}, not {wanted!r}"
     for path, old, new, *wanted in LACKING:

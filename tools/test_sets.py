@@ -44,12 +44,12 @@ class Sets(unittest.TestCase):
         text = TREE.text(HSR)
         for old, new, *changed in (
             ("6\tIFLA_HSR_VERSION", "9\tIFLA_HSR_VERSION", f"{HSR}:9: 7 is not above 9"),
-            ("8\tIFLA_HSR_INTERLINK", "9\tIFLA_HSR_INTERLINK", "Hsr.antt", "MODEL.md", "hsr"),
-            ("IFLA_HSR_SLAVE1", "IFLA_HSR_SLAVE2", "Hsr.antt", "MODEL.md", "hsr"),
-            ("Port1 index\tu32\t\tInterfaceIndex", "Port1 index\tu32", "Hsr.antt", "MODEL.md", "hsr"),
-            ("Port1", "Port2", "Hsr.antt", "MODEL.md", "hsr"),
-            ("[u8; 6]", "Vec<u8>", "Hsr.antt", "MODEL.md", "hsr"),
-            ("HsrProtocol>\t1", "HsrProtocol>\t2", "Hsr.antt", "MODEL.md", "hsr"),
+            ("8\tIFLA_HSR_INTERLINK", "9\tIFLA_HSR_INTERLINK", "Hsr.antt", "hsr"),
+            ("IFLA_HSR_SLAVE1", "IFLA_HSR_SLAVE2", "Hsr.antt", "hsr"),
+            ("Port1 index\tu32\t\tInterfaceIndex", "Port1 index\tu32", "Hsr.antt", "hsr"),
+            ("Port1", "Port2", "Hsr.antt", "hsr"),
+            ("[u8; 6]", "Vec<u8>", "Hsr.antt", "hsr"),
+            ("HsrProtocol>\t1", "HsrProtocol>\t2", "Hsr.antt", "hsr"),
             ("u16", "u24", f"{HSR}:7: there is no class `u24`"),
             ("HsrProtocol>\t1", "HsrProtocol>", f"{HSR}:9: `` is not a size of `Named<HsrProtocol>`"),
             ("Version version\tu8", "Version version\tu8\t1", f"{HSR}:8: `1` is not a size of `u8`"),
@@ -59,8 +59,7 @@ class Sets(unittest.TestCase):
             ("<HsrProtocol>", "<Mode>", f"{HSR}:9: specs/ has no `names` of `Mode`"),
             ("u32\t\tInterfaceIndex\n3", "u32\t\tIndex\n3", f"{HSR}:4: there is no quantity `Index`"),
             ("u16\t\t\tread-only", "u16\t\t\tsent", f"{HSR}:7: there is no way `sent`"),
-            ("u16\t\t\tread-only", "u16\t\t\twrite-only", "MODEL.md"),
-            ("u16\t\t\tread-only", "u16", "MODEL.md"),
+            ("u16\t\t\tread-only", "u16\t\t\twrite-only"),
             ("Version version", "Version", f"{HSR}:8: `Version` has 0 names of fields"),
             ("6\tIFLA_HSR_VERSION", "6\tIFLA_VERSION", f"{HSR}:8: `IFLA_VERSION` does not begin with IFLA_HSR_"),
             ("InfoHsr IFLA_HSR_", "InfoHsr IFLA_", "Hsr.antt", "hsr"),
@@ -183,19 +182,17 @@ part_leaf (infos.Other other) = default_means other
         self.assertIn("\nother_means (infos.One x) = ", made["crates/link_vlan_can/specs/Some.antt"])
         self.assertIn("> some 05000700", made["runs/sets/some"])
 
-    def test_rows_of_the_model(self):
-        it = sets.Set(HSR, TREE.files, TREE.text)
-        head = "### Some: `InfoHsr`, `hsr_table`\n\n```text\n"
-        made = sets.in_model(it, f"Above\n{head}1  IFLA_HSR_SLAVE1  Old  u8: one, two\n```\n\nBelow\n")
-        line = "1  IFLA_HSR_SLAVE1            Port1            u32 as InterfaceIndex: one, two\n"
-        self.assertTrue(made.startswith(f"Above\n{head}{line}2  IFLA_HSR_SLAVE2  ") and made.endswith("InterfaceIndex\n```\n\nBelow\n"), made)
-        other = "### Other: `InfoOther`, `other_table`\n\n```text\n1  IFLA_A  A  u8\n```\n\n"
-        made = sets.in_model(it, f"Above\n{other}Below\n")
-        title = "### HSR and PRP device attributes: `InfoHsr`, `hsr_table`\n\n```text\n"
-        self.assertTrue(made.startswith(f"Above\n{other}{title}1  IFLA_HSR_SLAVE1") and made.endswith("InterfaceIndex\n```\n\nBelow\n"), made)
-
 
 class Ways(unittest.TestCase):
+    def test_a_line_says_what_the_comment_does(self):
+        self.assertEqual([], [*sets.unlike_comments(TREE.files, TREE.text, TREE.ways)])
+        ways = TREE.ways | {"hsr_table": {"IFLA_HSR_SEQ_NR": "read-only", "IFLA_HSR_VERSION": "write-only"}}
+        said = "of {}, the comment of its variant says `{}`"
+        self.assertEqual(
+            [(HSR, 6, said.format("IFLA_HSR_SUPERVISION_ADDR", "")), (HSR, 8, said.format("IFLA_HSR_VERSION", "write-only"))],
+            [*sets.unlike_comments([HSR, *(it for it in TREE.files if not it.startswith("sets/"))], TREE.text, ways)],
+        )
+
     def test_what_comments_say(self):
         self.assertEqual("read-only", TREE.ways["macvlan_table"]["IFLA_MACVLAN_BC_QUEUE_LEN_USED"])
         self.assertEqual("write-only", TREE.ways["macvlan_table"]["IFLA_MACVLAN_MACADDR"])

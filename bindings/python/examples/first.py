@@ -1,7 +1,9 @@
-"""Reads a bond's list, prints it, and writes it with another interval."""
-from nlroute import Family, IFLA_BOND_MIIMON, read
+"""Writes the request that makes a bond, and prints the bonds in a buffer of messages: here, in this request."""
+from nlroute import Family, List, Request, messages
 
-bond = read(Family.BOND, bytes.fromhex("05000100 04000000 08000300 64000000"))
-print(bond)
-bond[IFLA_BOND_MIIMON] = 200
-print(bytes(bond).hex(" ", 4))
+options = List(Family.BOND, {"IFLA_BOND_MODE": "802.3ad", "IFLA_BOND_MIIMON": 100})
+request = bytes(Request.create("bond0").options(options))
+
+for message in messages(request):
+    if bond := message.held(Family.BOND):
+        print(bond)

@@ -1,11 +1,14 @@
-//! Reads a bond's list, prints it, and writes it with another interval.
+//! Writes the request that makes a bond, and prints the bonds in a buffer of messages: here, in this request.
 
-use nlroute::{Bond, List, IFLA_BOND_MIIMON};
+use nlroute::{messages, Bond, BondMode, List, Request, IFLA_BOND_MIIMON, IFLA_BOND_MODE};
 
 fn main() -> Result<(), nlroute::Error> {
-    let mut bond = List::<Bond>::read(&[5, 0, 1, 0, 4, 0, 0, 0, 8, 0, 3, 0, 100, 0, 0, 0])?;
-    print!("{bond}");
-    bond.set(IFLA_BOND_MIIMON, 200);
-    println!("{:?}", bond.to_bytes()?);
+    let options = List::<Bond>::new().with(IFLA_BOND_MODE, BondMode::IEEE8023AD).with(IFLA_BOND_MIIMON, 100);
+    let request = Request::create("bond0").options(&options).to_bytes()?;
+    for message in messages(&request) {
+        if let Some(bond) = message?.held::<Bond>()? {
+            print!("{bond}");
+        }
+    }
     Ok(())
 }
