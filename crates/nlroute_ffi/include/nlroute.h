@@ -501,9 +501,9 @@ ptrdiff_t nlroute_measure(uint32_t family, const struct nlroute_value *values, s
 
 /*
  * Stores the name of an attribute type: the kernel's constant, such as "IFLA_BR_FORWARD_DELAY", or "type 99" if the
- * type is not known. The fields kind, inner and depth of the value select the type. A number of an array has a place in
- * place of a type: the name of the place, such as "rx_packets", or its index if it has none: "[3]". An address of a list has
- * an index, too. Returns no error but NLROUTE_NO_FAMILY.
+ * type is not known. The fields kind, inner and depth of the value select the type; there is none at a depth greater than
+ * 1. A number of an array has a place in place of a type: the name of the place, such as "rx_packets", or its index if it has
+ * none: "[3]". An address of a list has an index, too. Returns no error but NLROUTE_NO_FAMILY.
  */
 ptrdiff_t nlroute_kind_name(uint32_t family, const struct nlroute_value *value, char *text, size_t room);
 
@@ -533,7 +533,8 @@ ptrdiff_t nlroute_text(uint32_t family, const struct nlroute_value *value, const
  * Stores the name of the number of a value, such as "802.3ad". The fields kind, inner and depth select the attribute
  * type. Enums, VLAN protocols and the states of CAN controllers have names.
  *
- * Returns NLROUTE_ABSENT if and only if the number has no name.
+ * Returns NLROUTE_ABSENT if and only if the number has no name: also if depth is greater than 1, or if it is 1 and the
+ * values of type kind have no elements.
  */
 ptrdiff_t nlroute_number_name(uint32_t family, const struct nlroute_value *value, char *text, size_t room);
 
@@ -541,7 +542,7 @@ ptrdiff_t nlroute_number_name(uint32_t family, const struct nlroute_value *value
  * Stores the name of a bit of the flags of an attribute type, such as "LACP_ACTIVITY" for bit 0. The fields kind,
  * inner and depth of the value select the type.
  *
- * Returns NLROUTE_ABSENT if and only if the bit has no name.
+ * Returns NLROUTE_ABSENT if and only if the bit has no name, as nlroute_number_name() for a number.
  */
 ptrdiff_t nlroute_flag_name(uint32_t family, const struct nlroute_value *value, uint32_t bit, char *text, size_t room);
 
@@ -602,7 +603,8 @@ ptrdiff_t nlroute_kind_of_in(uint32_t family, uint16_t list, const char *name, s
  * "LACP_ACTIVITY" or "rx_packets", in *number, and returns 0. The fields kind, inner and depth of the value select the type,
  * as for nlroute_number_name().
  *
- * Returns NLROUTE_ABSENT if and only if no number of the type has the name; *number is then unchanged.
+ * Returns NLROUTE_ABSENT if and only if no number of the type has the name: also if depth is greater than 1, or if it is
+ * 1 and the values of type kind have no elements. *number is then unchanged.
  */
 NLROUTE_MUST_USE
 ptrdiff_t nlroute_number_of(uint32_t family, const struct nlroute_value *value, const char *name, size_t len,
