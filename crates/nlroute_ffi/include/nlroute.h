@@ -512,6 +512,10 @@ ptrdiff_t nlroute_kind_name(uint32_t family, const struct nlroute_value *value, 
  * "02:00:00:00:00:01", "flags GVRP mask GVRP", "freq 8000000 Hz". For an element it is the text of the element only:
  * "120 ohm", "10.0.0.1". It is "" for a list and for NLROUTE_FORM_EMPTY, and "hex dead" for NLROUTE_FORM_UNKNOWN.
  *
+ * For NLROUTE_FORM_HELD and NLROUTE_FORM_PEER it is "(24 bytes, not decoded)", as nlshow prints a list that no set reads.
+ * If a set reads it, nlshow prints its attributes instead, each in a line of its own. Before those of a peer it prints fields
+ * of the header, as "ifindex 0". They are no part of the text: they are in the first 16 bytes at offset.
+ *
  * The text is that of what nlroute_write() writes for the value, so what it is going to write can be printed; a value
  * that it refuses has no text. The same fields matter, and NLROUTE_FORM_OF_KIND stands for the form of the attribute
  * type, but an element need not follow its list. The len bytes at octets are those that the value refers to, such as
