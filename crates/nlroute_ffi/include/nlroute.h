@@ -24,9 +24,10 @@
  * to be freed. What a function allocates with malloc() and realloc(), it frees before it returns (not proved). Different
  * threads may call the functions at the same time.
  *
- * nlroute_kinds.h has the attribute types by the kernel's names, and nlroute_requests.h writes requests. The headers are
- * C99, and C++11 or later. No function has the name of a struct: nlroute_read_message() stores a struct nlroute_message,
- * and nlroute_make_head() returns a struct nlroute_head. So C++ needs no `struct`, as in `nlroute_message message;`.
+ * nlroute_kinds.h has the attribute types by the kernel's names, nlroute_numbers.h the numbers of enums and the flags, and
+ * nlroute_requests.h writes requests. The headers are C99, and C++11 or later. No function has the name of a struct:
+ * nlroute_read_message() stores a struct nlroute_message, and nlroute_make_head() returns a struct nlroute_head. So C++ needs
+ * no `struct`, as in `nlroute_message message;`.
  *
  * Compile with pkg-config, once the library is installed:
  * cc main.c $(pkg-config --cflags --libs nlroute)
