@@ -71,6 +71,8 @@ PLACES = {
     IFLA_STATS64: LinkStats64,
     IFLA_INET_CONF: Ipv4Conf,
     IFLA_INET6_CONF: Ipv6Conf,
+    IFLA_INET6_STATS: Ipv6Stats,
+    IFLA_INET6_ICMP6STATS: Icmp6Stats,
 }
 
 

@@ -32,7 +32,7 @@ class Value(ctypes.Structure):
 class Row(ctypes.Structure):
     """struct nlroute_row."""
 
-    _fields_ = [("width", c_uint32), ("flags", c_uint16), ("form", c_uint8), ("is_list", c_uint8)]
+    _fields_ = [("width", c_uint32), ("flags", c_uint16), ("form", c_uint8), ("is_list", c_uint8), ("unit", c_uint32)]
 
 
 class Field(ctypes.Structure):

@@ -45,6 +45,8 @@ TYPES = {
     "IFLA_STATS64": "LinkStats64",
     "IFLA_INET_CONF": "Ipv4Conf",
     "IFLA_INET6_CONF": "Ipv6Conf",
+    "IFLA_INET6_STATS": "Ipv6Stats",
+    "IFLA_INET6_ICMP6STATS": "Icmp6Stats",
     "IFLA_INET6_CACHEINFO": "Inet6CacheInfo",
     "IFLA_MAP": "LinkMap",
     "IFLA_VXLAN_PORT_RANGE": "PortRange",

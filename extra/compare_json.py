@@ -50,7 +50,7 @@ CAPPED, ACK_TLVS = 0x100, 0x200
 # The numbers in network byte order: those of VXLAN devices, by their names in documents.
 NETWORK_ORDER = ("port", "label")
 # Arrays whose places have names.
-COUNTERS = ("stats", "stats64", "conf")
+COUNTERS = ("stats", "stats64", "conf", "icmp6stats")
 HEADER = ("len", "type", "flags", "seq", "pid")
 OF_LINK = ("family", "type", "index", "flags", "change")
 SHOWN = 3

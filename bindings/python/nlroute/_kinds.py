@@ -638,6 +638,25 @@ class Ipv6Conf(IntEnum):
     FORCE_FORWARDING = 59
 
 
+class Ipv6Stats(IntEnum):
+    """Places of the array IFLA_INET6_STATS: indices of its list."""
+    NUM = 0
+    INPKTS = 1
+    INOCTETS = 2
+    INDELIVERS = 3
+
+
+class Icmp6Stats(IntEnum):
+    """Places of the array IFLA_INET6_ICMP6STATS: indices of its list."""
+    NUM = 0
+    INMSGS = 1
+    INERRORS = 2
+    OUTMSGS = 3
+    OUTERRORS = 4
+    CSUMERRORS = 5
+    RATELIMITHOST = 6
+
+
 IFLA_BRIDGE_FLAGS: Key[BridgeFlags] = Key("IFLA_BRIDGE_FLAGS")
 IFLA_BRIDGE_MODE: Key[BridgeMode] = Key("IFLA_BRIDGE_MODE")
 IFLA_BRIDGE_VLAN_INFO: Key[VlanInfo] = Key("IFLA_BRIDGE_VLAN_INFO")
@@ -1490,10 +1509,10 @@ __all__ = [
     "CanCtrlMode", "HsrProtocol", "VxlanDf", "VxlanLabelPolicy", "OperState", "LinkMode", "ExtMask", "XdpAttached",
     "XdpFlags", "LinkEvent", "Inet6Flags", "AddrGenMode", "TunType", "IpvlanMode", "IpvlanFlags", "MacvlanMode",
     "MacvlanFlags", "MacvlanMacaddrMode", "NetkitPolicy", "NetkitMode", "NetkitScrub", "LinkStats", "LinkStats64",
-    "Ipv4Conf", "Ipv6Conf", "IFLA_BRIDGE_FLAGS", "IFLA_BRIDGE_MODE", "IFLA_BRIDGE_VLAN_INFO",
-    "IFLA_BRIDGE_VLAN_TUNNEL_INFO", "IFLA_BRIDGE_VLAN_TUNNEL_ID", "IFLA_BRIDGE_VLAN_TUNNEL_VID",
-    "IFLA_BRIDGE_VLAN_TUNNEL_FLAGS", "IFLA_BOND_MODE", "IFLA_BOND_ACTIVE_SLAVE", "IFLA_BOND_MIIMON",
-    "IFLA_BOND_UPDELAY", "IFLA_BOND_DOWNDELAY", "IFLA_BOND_USE_CARRIER", "IFLA_BOND_ARP_INTERVAL",
+    "Ipv4Conf", "Ipv6Conf", "Ipv6Stats", "Icmp6Stats", "IFLA_BRIDGE_FLAGS", "IFLA_BRIDGE_MODE",
+    "IFLA_BRIDGE_VLAN_INFO", "IFLA_BRIDGE_VLAN_TUNNEL_INFO", "IFLA_BRIDGE_VLAN_TUNNEL_ID",
+    "IFLA_BRIDGE_VLAN_TUNNEL_VID", "IFLA_BRIDGE_VLAN_TUNNEL_FLAGS", "IFLA_BOND_MODE", "IFLA_BOND_ACTIVE_SLAVE",
+    "IFLA_BOND_MIIMON", "IFLA_BOND_UPDELAY", "IFLA_BOND_DOWNDELAY", "IFLA_BOND_USE_CARRIER", "IFLA_BOND_ARP_INTERVAL",
     "IFLA_BOND_ARP_IP_TARGET", "IFLA_BOND_ARP_VALIDATE", "IFLA_BOND_ARP_ALL_TARGETS", "IFLA_BOND_PRIMARY",
     "IFLA_BOND_PRIMARY_RESELECT", "IFLA_BOND_FAIL_OVER_MAC", "IFLA_BOND_XMIT_HASH_POLICY", "IFLA_BOND_RESEND_IGMP",
     "IFLA_BOND_NUM_PEER_NOTIF", "IFLA_BOND_ALL_SLAVES_ACTIVE", "IFLA_BOND_MIN_LINKS", "IFLA_BOND_LP_INTERVAL",

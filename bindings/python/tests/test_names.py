@@ -130,7 +130,10 @@ class Names(unittest.TestCase):
         found = {name: {it: int(number) for it, number in PLACE.findall(body)} for name, body in groups.items()}
         # (the header has a name once)
         found["link_stats64"] |= found["link_stats"]
-        arrays = {"link_stats": LinkStats, "link_stats64": LinkStats64, "ipv4_conf": Ipv4Conf, "ipv6_conf": Ipv6Conf}
+        arrays = {
+            "link_stats": LinkStats, "link_stats64": LinkStats64, "ipv4_conf": Ipv4Conf, "ipv6_conf": Ipv6Conf,
+            "ipv6_stats": Ipv6Stats, "icmp6_stats": Icmp6Stats,
+        }  # fmt: skip
         self.assertEqual(found, {name: {it.name: it.value for it in places} for name, places in arrays.items()})
 
     def test_kernel(self):

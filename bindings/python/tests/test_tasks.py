@@ -104,13 +104,13 @@ class Tasks(unittest.TestCase):
         self.assertEqual(bytes(link), LINK)
 
     def test_print_arrays(self):
-        # IFLA_INET_CONF (1) and IFLA_INET6_ICMP6STATS (6), whose places have no names
+        # IFLA_INET_CONF (1) and IFLA_INET6_STATS (3), of which only the places 0 to 3 have names
         for family, octets, line in [
             (Family.INET, "0c000100 01000000 ffffffff", "IFLA_INET_CONF forwarding 1 mc_forwarding -1"),
             (Family.INET, "0c000100 00000000 00000000", "IFLA_INET_CONF (2 zero)"),
             (Family.INET, "04000100", "IFLA_INET_CONF (empty)"),
             (Family.INET, "94000100" + "00000000" * 33 + "07000000 00000000" "00000000", "IFLA_INET_CONF [33] 7 (35 zero)"),
-            (Family.INET6, "14000600 05000000 00000000 00000000 00000000", "IFLA_INET6_ICMP6STATS 5 0"),
+            (Family.INET6, "2c000300 05000000" + "00000000" * 7 + "07000000 00000000", "IFLA_INET6_STATS num 5 [4] 7 (3 zero)"),
         ]:
             self.assertEqual(text(family, bytes.fromhex(octets)), line)
 

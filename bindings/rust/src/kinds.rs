@@ -1907,6 +1907,36 @@ pub mod ipv6_conf {
     pub const FORCE_FORWARDING: usize = 59;
 }
 
+/// Has the places of the array [`IFLA_INET6_STATS`]: indices of its `Vec`.
+pub mod ipv6_stats {
+    /// Is the place of `num`.
+    pub const NUM: usize = 0;
+    /// Is the place of `inpkts`.
+    pub const INPKTS: usize = 1;
+    /// Is the place of `inoctets`.
+    pub const INOCTETS: usize = 2;
+    /// Is the place of `indelivers`.
+    pub const INDELIVERS: usize = 3;
+}
+
+/// Has the places of the array [`IFLA_INET6_ICMP6STATS`]: indices of its `Vec`.
+pub mod icmp6_stats {
+    /// Is the place of `num`.
+    pub const NUM: usize = 0;
+    /// Is the place of `inmsgs`.
+    pub const INMSGS: usize = 1;
+    /// Is the place of `inerrors`.
+    pub const INERRORS: usize = 2;
+    /// Is the place of `outmsgs`.
+    pub const OUTMSGS: usize = 3;
+    /// Is the place of `outerrors`.
+    pub const OUTERRORS: usize = 4;
+    /// Is the place of `csumerrors`.
+    pub const CSUMERRORS: usize = 5;
+    /// Is the place of `ratelimithost`.
+    pub const RATELIMITHOST: usize = 6;
+}
+
 /// Calls a visitor for each key.
 #[cfg(test)]
 pub(crate) fn visit_keys(visitor: &mut impl crate::tests::Visitor) {

@@ -140,8 +140,8 @@ fn arrays_are_printed_by_the_names_of_their_places() {
     let mut more = [0; 36];
     more[33] = 7;
     assert_eq!(text(&more), "IFLA_INET_CONF [33] 7 (35 zero)\n");
-    let counters = List::<Inet6>::new().with(IFLA_INET6_ICMP6STATS, vec![5, 0]);
-    assert_eq!(counters.to_string(), "IFLA_INET6_ICMP6STATS 5 0\n");
+    let counters = List::<Inet6>::new().with(IFLA_INET6_STATS, vec![5, 0, 0, 0, 7]);
+    assert_eq!(counters.to_string(), "IFLA_INET6_STATS num 5 [4] 7 (3 zero)\n");
 }
 
 #[test]

@@ -8,7 +8,7 @@ use Rattle.std.proofs.lemmas.List.Elements.{filter-append}
 use Rattle.std.proofs.Math.Nat.{suc-mul, add-mul, mul-le-mul, mul-le-mul_right}
 use Rattle.link_base.specs.declared.wire.fault.Cause.{Cause}
 use Rattle.link_base.specs.declared.wire.fault.DecodeFault.TheVariants as faults
-use Rattle.link_base.specs.Frame.{BeginsWith, bare, frame_bytes, frame_fault, spelled, pad}
+use Rattle.link_base.specs.Frame.{BeginsWith, bare, frame_bytes, frame_fault, bytes_of_frames, pad}
 use Rattle.link_base.specs.Wire.{whole}
 use Rattle.link_base.specs.Table.{Case, Listed, Addresses, PayloadGives, ShapeGives, of_length, addresses_from}
 use Rattle.link_base.specs.IpAddress.{sized}
@@ -88,37 +88,37 @@ few n h = omega (arith, ltb-true n 17 h)
 
 module _ {X : Type 0} (octets : X → List ℕ) (n : ℕ) (same : (x : X) → length (octets x) ≡ n) where
   -- the length of a list
-  pub length-addresses : (i : ℕ) (xs : List X) → length (spelled (addresses_from i (map octets xs))) ≡ length xs * pad (4 + n)
+  pub length-addresses : (i : ℕ) (xs : List X) → length (bytes_of_frames (addresses_from i (map octets xs))) ≡ length xs * pad (4 + n)
   length-addresses i [] = omega arith
   length-addresses i (x ∷ xs) =
       let frame = frame_bytes (whole i (octets x)) in
-      let others = spelled (addresses_from (i + 1) (map octets xs)) in
+      let others = bytes_of_frames (addresses_from (i + 1) (map octets xs)) in
       let own : length frame ≡ pad (4 + n) = length-whole i (octets x) ∙ ap (λ m. pad (4 + m)) (same x) in
       omega (arith, length-append frame others, own, length-addresses (i + 1) xs, suc-mul (length xs) (pad (4 + n)))
 
   -- one more element
   pub addresses_more : (xs : List X) (i : ℕ) (x : X) → i < length xs → x ≡ get_or xs i x
-      → spelled (addresses_from 0 (map octets (take (i + 1) xs))) ≡ spelled (addresses_from 0 (map octets (take i xs))) ++ frame_bytes (whole i (octets x))
+      → bytes_of_frames (addresses_from 0 (map octets (take (i + 1) xs))) ≡ bytes_of_frames (addresses_from 0 (map octets (take i xs))) ++ frame_bytes (whole i (octets x))
   addresses_more xs i x lt is =
       let first = map octets (take i xs) in
       let place : 0 + length first ≡ i = omega (arith, length-map (take i xs) octets, length-take i xs) in
-      ap (λ t. spelled (addresses_from 0 t)) (one_more octets xs i x lt is)
-      ∙ ap spelled (addresses-append 0 first (octets x ∷ []))
+      ap (λ t. bytes_of_frames (addresses_from 0 t)) (one_more octets xs i x lt is)
+      ∙ ap bytes_of_frames (addresses-append 0 first (octets x ∷ []))
       ∙ flat_map-append frame_bytes (addresses_from 0 first) (addresses_from (0 + length first) (octets x ∷ []))
-      ∙ ap (λ j. spelled (addresses_from 0 first) ++ spelled (addresses_from j (octets x ∷ []))) place
-      ∙ ap (λ t. spelled (addresses_from 0 first) ++ t) (append-nil (frame_bytes (whole i (octets x))))
+      ∙ ap (λ j. bytes_of_frames (addresses_from 0 first) ++ bytes_of_frames (addresses_from j (octets x ∷ []))) place
+      ∙ ap (λ t. bytes_of_frames (addresses_from 0 first) ++ t) (append-nil (frame_bytes (whole i (octets x))))
 
   -- what is written so far and the next element are together no longer than the whole list
   pub addresses_room : (xs : List X) (i : ℕ) (x : X) → i < length xs
-      → length (spelled (addresses_from 0 (map octets (take i xs)))) + length (frame_bytes (whole i (octets x))) ≤ length (spelled (addresses_from 0 (map octets xs)))
+      → length (bytes_of_frames (addresses_from 0 (map octets (take i xs)))) + length (frame_bytes (whole i (octets x))) ≤ length (bytes_of_frames (addresses_from 0 (map octets xs)))
   addresses_room xs i x lt =
       let k = pad (4 + n) in
       let own : length (frame_bytes (whole i (octets x))) ≡ k = length-whole i (octets x) ∙ ap (λ m. pad (4 + m)) (same x) in
-      let before : length (spelled (addresses_from 0 (map octets (take i xs)))) ≡ i * k = length-addresses 0 (take i xs) ∙ ap (λ m. m * k) (omega (arith, length-take i xs)) in
+      let before : length (bytes_of_frames (addresses_from 0 (map octets (take i xs)))) ≡ i * k = length-addresses 0 (take i xs) ∙ ap (λ m. m * k) (omega (arith, length-take i xs)) in
       omega (arith, own, before, length-addresses 0 xs, more_times i (length xs) k lt)
 
   -- the attribute type of an element is at most the length of the list
-  pub kind_short : (xs : List X) (i : ℕ) → i < length xs → i ≤ length (spelled (addresses_from 0 (map octets xs)))
+  pub kind_short : (xs : List X) (i : ℕ) → i < length xs → i ≤ length (bytes_of_frames (addresses_from 0 (map octets xs)))
   kind_short xs i lt =
       let k = pad (4 + n) in
       let each : i * 1 ≤ length xs * k = mul-le-mul (omega (arith, lt)) (omega arith) in

@@ -5,7 +5,7 @@ use Rattle.std.specs.List.{AllByRecursion}
 use Rattle.std.proofs.lemmas.Bool.{cond-true, cond_both, eqb-true, eq-eqb}
 use Rattle.std.proofs.lemmas.List.{length-replicate}
 use Rattle.link_base.specs.Number.{IsBytes}
-use Rattle.link_base.specs.Frame.{Frame, IsComplete, AreFrames, pad, gap, frame_bytes, spelled}
+use Rattle.link_base.specs.Frame.{Frame, IsComplete, AreFrames, pad, gap, frame_bytes, bytes_of_frames}
 use Rattle.link_base.specs.Wire.{whole}
 use Rattle.link_base.specs.Table.{PayloadGives, of_length, addresses_from}
 use Rattle.link_base.specs.Held.{IsOctets}
@@ -59,24 +59,24 @@ pub length-whole : (i : ℕ) (a : List ℕ) → length (frame_bytes (whole i a))
 length-whole i a = omega (arith, length-frame_bytes (whole i a), length-replicate {A = ℕ} (gap a) 0)
 
 -- the frames of addresses that fit are complete
-pub complete_addresses : (i : ℕ) (octets : List (List ℕ)) → i + length (spelled (addresses_from i octets)) ≤ 65531 → AllByRecursion IsComplete (addresses_from i octets)
+pub complete_addresses : (i : ℕ) (octets : List (List ℕ)) → i + length (bytes_of_frames (addresses_from i octets)) ≤ 65531 → AllByRecursion IsComplete (addresses_from i octets)
 complete_addresses i [] fit = tt
 complete_addresses i (a ∷ others) fit =
-    let len = length-append (frame_bytes (whole i a)) (spelled (addresses_from (i + 1) others)) in
+    let len = length-append (frame_bytes (whole i a)) (bytes_of_frames (addresses_from (i + 1) others)) in
     let own = length-whole i a in
     (IsComplete-whole i a (omega arith) (omega arith), complete_addresses (i + 1) others (omega arith))
 
 -- the frames of addresses consist of bytes
-pub bytes-addresses : (n i : ℕ) (octets : List (List ℕ)) → AllByRecursion (IsOctets n) octets → IsBytes (spelled (addresses_from i octets))
+pub bytes-addresses : (n i : ℕ) (octets : List (List ℕ)) → AllByRecursion (IsOctets n) octets → IsBytes (bytes_of_frames (addresses_from i octets))
 bytes-addresses n i [] h = tt
 bytes-addresses n i (a ∷ others) h =
-    bytes-append (frame_bytes (whole i a)) (spelled (addresses_from (i + 1) others)) (bytes-whole i a h.0.1) (bytes-addresses n (i + 1) others h.1)
+    bytes-append (frame_bytes (whole i a)) (bytes_of_frames (addresses_from (i + 1) others)) (bytes-whole i a h.0.1) (bytes-addresses n (i + 1) others h.1)
 
 -- what is written for the addresses is no longer than the input, padded
-pub short-addresses : (n i : ℕ) (xs : List Frame) → AreFrames xs → length (spelled (addresses_from i (of_length n (payloads xs)))) ≤ pad (length (spelled xs))
+pub short-addresses : (n i : ℕ) (xs : List Frame) → AreFrames xs → length (bytes_of_frames (addresses_from i (of_length n (payloads xs)))) ≤ pad (length (bytes_of_frames xs))
 short-addresses n i [] h = omega arith
 short-addresses n i (x ∷ []) h =
-    cond_both (length x.payload == n) (x.payload ∷ []) [] (λ t. length (spelled (addresses_from i t)) ≤ pad (length (spelled (x ∷ []))))
+    cond_both (length x.payload == n) (x.payload ∷ []) [] (λ t. length (bytes_of_frames (addresses_from i t)) ≤ pad (length (bytes_of_frames (x ∷ []))))
     (λ e. omega (arith, length-whole i x.payload, length-append (frame_bytes (whole i x.payload)) [], length-append (frame_bytes x) [], length-frame_bytes x))
     (λ e. omega arith)
 short-addresses n i (x ∷ y ∷ xs) h =
@@ -84,7 +84,7 @@ short-addresses n i (x ∷ y ∷ xs) h =
     let left = short-addresses n i (y ∷ xs) h.1 in
     let others = of_length n (payloads (y ∷ xs)) in
     let own = length-complete x h.0 in
-    let all = length-append (frame_bytes x) (spelled (y ∷ xs)) in
-    cond_both (length x.payload == n) (x.payload ∷ others) others (λ t. length (spelled (addresses_from i t)) ≤ pad (length (spelled (x ∷ y ∷ xs))))
-    (λ e. omega (arith, length-whole i x.payload, length-append (frame_bytes (whole i x.payload)) (spelled (addresses_from (i + 1) others))))
+    let all = length-append (frame_bytes x) (bytes_of_frames (y ∷ xs)) in
+    cond_both (length x.payload == n) (x.payload ∷ others) others (λ t. length (bytes_of_frames (addresses_from i t)) ≤ pad (length (bytes_of_frames (x ∷ y ∷ xs))))
+    (λ e. omega (arith, length-whole i x.payload, length-append (frame_bytes (whole i x.payload)) (bytes_of_frames (addresses_from (i + 1) others))))
     (λ e. omega arith)

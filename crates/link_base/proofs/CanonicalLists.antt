@@ -4,12 +4,12 @@ use Rattle.std.specs.Prelude.{Bool, true, false, not, Option, Some, is_some, IsT
 use Rattle.std.specs.List.{AllByRecursion}
 use Rattle.std.proofs.lemmas.List.{append_cancel_left, length-replicate, length-take, take-append-drop, get_or-replicate}
 use Rattle.std.proofs.Math.Seq.{drop-append_seam, take-append_seam}
-use Rattle.link_base.specs.Frame.{Frame, BeginsWith, bare, IsComplete, frame_bytes, spelled, gap}
+use Rattle.link_base.specs.Frame.{Frame, BeginsWith, bare, IsComplete, frame_bytes, bytes_of_frames, gap}
 use Rattle.link_base.specs.Wire.{whole, SplitsWhole, IsCanonicalFrame, CanonicalBy, FirstOtherBy}
 use Rattle.link_base.specs.Table.{addresses_from}
 use Rattle.link_base.proofs.FrameBytes.{length-frame_bytes}
 use Rattle.link_base.proofs.Cuts.{SameFront, SameFront-frames, IsFrame-complete}
-use Rattle.link_base.proofs.Walking.{spelled-push, some_bytes}
+use Rattle.link_base.proofs.Walking.{bytes_of_frames-push, some_bytes}
 use Rattle.link_base.proofs.Written.{all_append}
 
 -- ---- the frame at the start
@@ -101,7 +101,7 @@ module _ (allows : ℕ → List ℕ → Type 0) where
   -- canonical frames before the rest
   pub record Passed (s rest : List ℕ) : Type 0 where
     pub front : List Frame
-    pub string : s ≡ spelled front ++ rest
+    pub string : s ≡ bytes_of_frames front ++ rest
     pub each : AllByRecursion (IsCanonicalFrame allows) front
 
   -- one more frame
@@ -110,7 +110,7 @@ module _ (allows : ℕ → List ℕ → Type 0) where
       let x = whole f p in
       record {
         front = w.front ++ x ∷ [];
-        string = w.string ∙ ap (λ t. spelled w.front ++ t) split.1 ∙ sym (append_assoc (spelled w.front) (frame_bytes x) next) ∙ ap (λ t. t ++ next) (sym (spelled-push w.front x));
+        string = w.string ∙ ap (λ t. bytes_of_frames w.front ++ t) split.1 ∙ sym (append_assoc (bytes_of_frames w.front) (frame_bytes x) next) ∙ ap (λ t. t ++ next) (sym (bytes_of_frames-push w.front x));
         each = all_append (IsCanonicalFrame allows) w.front (x ∷ []) w.each (record { complete = split.0; zeros = refl; allowed = allowed }, tt);
       }
 
@@ -131,20 +131,20 @@ module _ (allows : ℕ → List ℕ → Type 0) where
     string = w.string;
     each = w.each;
     some = some_bytes rest some;
-    offset = omega (arith, place, ap length w.string, length-append (spelled w.front) rest);
+    offset = omega (arith, place, ap length w.string, length-append (bytes_of_frames w.front) rest);
     here = none;
   }
 
   -- canonical frames are not canonical frames followed by something else
-  other_not : (rest : List ℕ) (xs ys : List Frame) → AllByRecursion (IsCanonicalFrame allows) xs → AllByRecursion (IsCanonicalFrame allows) ys → 0 < length rest → NoneHere rest → spelled xs ++ rest ≡ spelled ys → ⊥
+  other_not : (rest : List ℕ) (xs ys : List Frame) → AllByRecursion (IsCanonicalFrame allows) xs → AllByRecursion (IsCanonicalFrame allows) ys → 0 < length rest → NoneHere rest → bytes_of_frames xs ++ rest ≡ bytes_of_frames ys → ⊥
   other_not rest [] [] hx hy some none e = omega (arith, some, ap length e)
-  other_not rest [] (y ∷ ys) hx hy some none e = none y (spelled ys) e hy.0
+  other_not rest [] (y ∷ ys) hx hy some none e = none y (bytes_of_frames ys) e hy.0
   other_not rest (x ∷ xs) [] hx hy some none e = absurd cc
   other_not rest (x ∷ xs) (y ∷ ys) hx hy some none e =
-      let s = frame_bytes x ++ (spelled xs ++ rest) in
-      let left = canonical_whole s x (spelled xs ++ rest) hx.0 refl in
-      let right = canonical_whole s y (spelled ys) hy.0 (sym (append_assoc (frame_bytes x) (spelled xs) rest) ∙ e) in
-      other_not rest xs ys hx.1 hy.1 some none (one_whole s x.kind_field y.kind_field x.payload y.payload (spelled xs ++ rest) (spelled ys) left right).2
+      let s = frame_bytes x ++ (bytes_of_frames xs ++ rest) in
+      let left = canonical_whole s x (bytes_of_frames xs ++ rest) hx.0 refl in
+      let right = canonical_whole s y (bytes_of_frames ys) hy.0 (sym (append_assoc (frame_bytes x) (bytes_of_frames xs) rest) ∙ e) in
+      other_not rest xs ys hx.1 hy.1 some none (one_whole s x.kind_field y.kind_field x.payload y.payload (bytes_of_frames xs ++ rest) (bytes_of_frames ys) left right).2
 
   -- a list in which something else follows the canonical frames is not canonical
   pub not_canonical : (s : List ℕ) (at : ℕ) → FirstOtherBy allows s at → ¬ (CanonicalBy allows s)
@@ -166,7 +166,7 @@ pub record AreElements (i n : ℕ) (p : List ℕ) : Type 0 where
   pub addresses : List (List ℕ)
   pub each : AllByRecursion (λ a. length a ≡ n) addresses
   pub complete : AllByRecursion IsComplete (addresses_from i addresses)
-  pub string : p ≡ spelled (addresses_from i addresses)
+  pub string : p ≡ bytes_of_frames (addresses_from i addresses)
 
 pub elements_none : (i n : ℕ) (p : List ℕ) → p ≡ [] → AreElements i n p
 elements_none i n p e = record { addresses = []; each = tt; complete = tt; string = e }
@@ -179,12 +179,12 @@ pub record First (i n : ℕ) (p : List ℕ) : Type 0 where
   pub size : length address ≡ n
   pub after : AreElements (i + 1) n others
 
-first_by : (i n : ℕ) (p : List ℕ) (addresses : List (List ℕ)) → AllByRecursion (λ a. length a ≡ n) addresses → AllByRecursion IsComplete (addresses_from i addresses) → p ≡ spelled (addresses_from i addresses) → p ≢ []
+first_by : (i n : ℕ) (p : List ℕ) (addresses : List (List ℕ)) → AllByRecursion (λ a. length a ≡ n) addresses → AllByRecursion IsComplete (addresses_from i addresses) → p ≡ bytes_of_frames (addresses_from i addresses) → p ≢ []
     → First i n p
 first_by i n p [] each complete string some = absurd (some string)
 first_by i n p (a ∷ others) each complete string some = record {
   address = a;
-  others = spelled (addresses_from (i + 1) others);
+  others = bytes_of_frames (addresses_from (i + 1) others);
   split = (complete.0, string);
   size = each.0;
   after = record { addresses = others; each = each.1; complete = complete.1; string = refl };

@@ -71,42 +71,42 @@ not_true : (b : Bool) → not b ≡ true → b ≡ false
 not_true true h = absurd cc
 not_true false h = refl
 
-class_told : (form : Form) (names : List (ℕ × List ℕ)) (c : Class) → is_class_of form names c ≡ true → IsClassOf form names c
-class_told form names c h =
+class_sound : (form : Form) (names : List (ℕ × List ℕ)) (c : Class) → is_class_of form names c ≡ true → IsClassOf form names c
+class_sound form names c h =
     let both = and_parts (is_single form) (bytes_eq (class_code c) (class_code (class_by form names))) h in
     (both.0, same_class c (class_by form names) both.1)
 
 module _ {A : Type 0} (test : A → Bool) (T : A → Type 0) (tells : (x : A) → test x ≡ true → T x) where
-  all_told : (xs : List A) → list_all test xs ≡ true → AllByRecursion T xs
-  all_told [] h = tt
-  all_told (x ∷ xs) h =
+  all_sound : (xs : List A) → list_all test xs ≡ true → AllByRecursion T xs
+  all_sound [] h = tt
+  all_sound (x ∷ xs) h =
       let both = and_parts (test x) (list_all test xs) h in
-      (tells x both.0, all_told xs both.1)
+      (tells x both.0, all_sound xs both.1)
 
-leaf_told : (form : Form) (names : List (ℕ × List ℕ)) (c : Class) → is_leaf_of form names c ≡ true → IsLeafOf form names c
-leaf_told form names c h =
+leaf_sound : (form : Form) (names : List (ℕ × List ℕ)) (c : Class) → is_leaf_of form names c ≡ true → IsLeafOf form names c
+leaf_sound form names c h =
     let both = and_parts (not (is_array form)) (is_class_of form names c) h in
-    (not_true (is_array form) both.0, class_told form names c both.1)
+    (not_true (is_array form) both.0, class_sound form names c both.1)
 
 abbrev leaf_test : Row Class → Bool
 leaf_test r = is_leaf_of r.form r.names r.class
 
-leaves_told : (rows : Rows) → list_all leaf_test rows ≡ true → AllByRecursion (λ (r : Row Class). IsLeafOf r.form r.names r.class) rows
-leaves_told rows h = all_told leaf_test (λ r. IsLeafOf r.form r.names r.class) (λ r. leaf_told r.form r.names r.class) rows h
+leaves_sound : (rows : Rows) → list_all leaf_test rows ≡ true → AllByRecursion (λ (r : Row Class). IsLeafOf r.form r.names r.class) rows
+leaves_sound rows h = all_sound leaf_test (λ r. IsLeafOf r.form r.names r.class) (λ r. leaf_sound r.form r.names r.class) rows h
 
-flag_told : (a b : Bool) → same_flag a b ≡ true → a ≡ b
-flag_told true true h = refl
-flag_told true false h = absurd cc
-flag_told false true h = absurd cc
-flag_told false false h = refl
+flag_sound : (a b : Bool) → same_flag a b ≡ true → a ≡ b
+flag_sound true true h = refl
+flag_sound true false h = absurd cc
+flag_sound false true h = absurd cc
+flag_sound false false h = refl
 
-shape_told : (form : Form) (names : List (ℕ × List ℕ)) (s : Shape) → is_shape_of form names s ≡ true → IsShapeOf form names s
-shape_told form names (One c) h = class_told form names c h
-shape_told (forms.List told) names (Nested flagged rows) h =
-    let both = and_parts (same_flag told flagged) (list_all leaf_test rows) h in
-    (flag_told told flagged both.0, leaves_told rows both.1)
-shape_told (forms.Addresses told) names (Addresses n) h = eqb-true told n h
-shape_told form names s h = absurd cc
+shape_sound : (form : Form) (names : List (ℕ × List ℕ)) (s : Shape) → is_shape_of form names s ≡ true → IsShapeOf form names s
+shape_sound form names (One c) h = class_sound form names c h
+shape_sound (forms.List stated) names (Nested flagged rows) h =
+    let both = and_parts (same_flag stated flagged) (list_all leaf_test rows) h in
+    (flag_sound stated flagged both.0, leaves_sound rows both.1)
+shape_sound (forms.Addresses stated) names (Addresses n) h = eqb-true stated n h
+shape_sound form names s h = absurd cc
 
 -- ---- the row of an attribute type
 
@@ -128,8 +128,8 @@ pub row_passes_all : (table : Table) (k : ℕ) (r : Row Shape) → is_table tabl
 row_passes_all table k r h at = passes r (row_passes is_row 0 table k r h at)
 
 -- its shape is that of its form
-pub row_told : (table : Table) (k : ℕ) (r : Row Shape) → is_table table ≡ true → row_at table k ≡ Some r → IsShapeOf r.form r.names r.class
-row_told table k r h at = shape_told r.form r.names r.class (row_passes_all table k r h at).of_form
+pub row_sound : (table : Table) (k : ℕ) (r : Row Shape) → is_table table ≡ true → row_at table k ≡ Some r → IsShapeOf r.form r.names r.class
+row_sound table k r h at = shape_sound r.form r.names r.class (row_passes_all table k r h at).of_form
 
 -- it has this attribute type, which is below the limit
 module _ {C : Type 0} (test : Row C → Bool) (k : ℕ) (r : Row C) where
@@ -169,7 +169,7 @@ leaf_formed least (r ∷ rows) h leaves texts =
     (both_true (is_row (lift_row r)) (are_rows is_row (r.kind + 1) (lift_table rows)) own (leaf_formed (r.kind + 1) rows three.1 leaf.1 text.1)))
 
 nested_leaves : (form : Form) (names : List (ℕ × List ℕ)) (flagged : Bool) (rows : Rows) → is_shape_of form names (Nested flagged rows) ≡ true → list_all leaf_test rows ≡ true
-nested_leaves (forms.List told) names flagged rows h = (and_parts (same_flag told flagged) (list_all leaf_test rows) h).1
+nested_leaves (forms.List stated) names flagged rows h = (and_parts (same_flag stated flagged) (list_all leaf_test rows) h).1
 nested_leaves form names flagged rows h = absurd cc
 
 shape_formed : (r : Row Shape) (shape : Shape) → r.class ≡ shape → RowPasses r → is_table (elements_by (Some shape)) ≡ true
@@ -191,8 +191,8 @@ module _ (k : ℕ) (r : Row Shape) where
   leaf_here : (first : Row Class) (rows : Rows) (b : Bool) → leaf_test first ≡ true → cond b (Some (lift_row first)) (row_at (lift_table rows) k) ≡ Some r → (row_at (lift_table rows) k ≡ Some r → (is_array r.form ≡ false) × (is_single r.form ≡ true)) → (is_array r.form ≡ false) × (is_single r.form ≡ true)
   leaf_here first rows true leaf at later =
       let same : lift_row first ≡ r = some_same at in
-      let told = leaf_told first.form first.names first.class leaf in
-      subst (λ (q : Row Shape). (is_array q.form ≡ false) × (is_single q.form ≡ true)) same (told.0, told.1.0)
+      let stated = leaf_sound first.form first.names first.class leaf in
+      subst (λ (q : Row Shape). (is_array q.form ≡ false) × (is_single q.form ≡ true)) same (stated.0, stated.1.0)
   leaf_here first rows false leaf at later = later at
 
   leaf_found : (rows : Rows) → list_all leaf_test rows ≡ true → row_at (lift_table rows) k ≡ Some r → (is_array r.form ≡ false) × (is_single r.form ≡ true)

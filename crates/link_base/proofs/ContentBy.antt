@@ -25,9 +25,9 @@ use Rattle.link_base.specs.Labels.{label_of, label_in}
 use Rattle.link_base.specs.Payloads.{number_class, look_class, class_by}
 use Rattle.link_base.specs.Orders.{bytes_by}
 use Rattle.link_base.specs.Table.{Label, Row, Shape, One, Nested, Addresses, Table, AttrValue, Gives, GivesBy, row_at, class_at, form_at, label_at, label_by, single_case}
-use Rattle.link_base.specs.Borrowed.{Says, SaysAddresses, told, Borrows, BorrowsBy, HasValue}
+use Rattle.link_base.specs.Borrowed.{Says, SaysAddresses, as_named, Borrows, BorrowsBy, HasValue}
 use Rattle.link_base.specs.WellFormed.{is_table}
-use Rattle.link_base.proofs.Coherence.{row_told}
+use Rattle.link_base.proofs.Coherence.{row_sound}
 use Rattle.link_base.proofs.Entries.{class_of_row, form_of_row, label_of_row}
 use Rattle.link_base.proofs.Numbers.{number-bytes_of}
 use Rattle.link_base.proofs.Orders.{all_taken, bytes_be_len}
@@ -35,14 +35,14 @@ use Rattle.link_base.proofs.Orders.{all_taken, bytes_be_len}
 -- ---- numbers
 
 -- a number is told by its name or without it
-told_named : (n : ℕ) (listed : List ℕ) (x : ℕ) → told (named n listed x) ≡ Name n x
-told_named n listed x = cond_both (is_listed listed x) (Name n x) (Unlisted n listed x) (λ v. told v ≡ Name n x) (λ _. refl) (λ _. refl)
+as_named_named : (n : ℕ) (listed : List ℕ) (x : ℕ) → as_named (named n listed x) ≡ Name n x
+as_named_named n listed x = cond_both (is_listed listed x) (Name n x) (Unlisted n listed x) (λ v. as_named v ≡ Name n x) (λ _. refl) (λ _. refl)
 
 pub number_says : (order : Order) (role : Role) (w : Width) (names : List (ℕ × List ℕ)) (p : List ℕ) (x : ℕ) → p ≡ bytes_by order (bytes_in w) x → x < bound (bytes_in w)
     → Says (borrowed.Number x w order role) (meant (number_class order role (bytes_in w) names) p)
 number_says orders.Little roles.Enum w names p x is low =
     let same : number p ≡ x = ap number is ∙ number-bytes_of (bytes_in w) x low in
-    (told_named (bytes_in w) (map (λ y. y.0) names) (number p) ∙ ap (Name (bytes_in w)) same, low)
+    (as_named_named (bytes_in w) (map (λ y. y.0) names) (number p) ∙ ap (Name (bytes_in w)) same, low)
 number_says orders.Little role w names p x is low =
     let same : number p ≡ x = ap number is ∙ number-bytes_of (bytes_in w) x low in
     (ap (Number (bytes_in w)) same, low)
@@ -109,7 +109,7 @@ module _ (table : Table) (f : ℕ) (formed : is_table table ≡ true) where
     pub shape : Shape
     pub of_form : IsShapeOf form names shape
     pub class : class_at table (kind_of f) ≡ Some shape
-    pub told : form_at table (kind_of f) ≡ Some form
+    pub stated : form_at table (kind_of f) ≡ Some form
 
   pub labelled : (label : KindLabel) → label_in (Some label) ≡ label_at table (kind_of f) → Labelled label.form
   labelled label e = by_row (row_at table (kind_of f)) refl
@@ -122,9 +122,9 @@ module _ (table : Table) (f : ℕ) (formed : is_table table ≡ true) where
           record {
             names = r.names;
             shape = r.class;
-            of_form = subst (λ g. IsShapeOf g r.names r.class) form (row_told table (kind_of f) r formed at);
+            of_form = subst (λ g. IsShapeOf g r.names r.class) form (row_sound table (kind_of f) r formed at);
             class = class_of_row table (kind_of f) r at;
-            told = form_of_row table (kind_of f) r at ∙ ap Some form;
+            stated = form_of_row table (kind_of f) r at ∙ ap Some form;
           }
 
   -- a form that is no list has one class

@@ -4,7 +4,7 @@ use Rattle.std.specs.List.{AllByRecursion}
 use Rattle.link_base.specs.Number.{IsBytes}
 use Rattle.link_base.specs.declared.wire.fault.Cause.{Cause}
 use Rattle.link_base.specs.declared.wire.fault.DecodeFault.{DecodeFault}
-use Rattle.link_base.specs.Frame.{Frame, Frames, pad, frame_bytes, spelled}
+use Rattle.link_base.specs.Frame.{Frame, Frames, pad, frame_bytes, bytes_of_frames}
 use Rattle.link_base.specs.Class
 use Rattle.link_base.specs.Class.{Class, Value, class_value, written, extent, length_cause, meant}
 use Rattle.link_base.specs.Wire.{Reading, Reads, Wire, FitsBy, RewritingBy, whole}
@@ -115,8 +115,8 @@ sizes : (n : ℕ) (octets : List (List ℕ)) → AllByRecursion (IsOctets n) oct
 sizes n octets h = all_each (IsOctets n) (λ a. length a ≡ n) (λ a k. k.0) octets h
 
 -- what is written for addresses decodes to these addresses
-addresses_mean : (n : ℕ) (octets : List (List ℕ)) → AllByRecursion (IsOctets n) octets → length (spelled (addresses_from 0 octets)) ≤ 65531
-    → Means (Addresses n) (spelled (addresses_from 0 octets)) (Listed octets)
+addresses_mean : (n : ℕ) (octets : List (List ℕ)) → AllByRecursion (IsOctets n) octets → length (bytes_of_frames (addresses_from 0 octets)) ≤ 65531
+    → Means (Addresses n) (bytes_of_frames (addresses_from 0 octets)) (Listed octets)
 addresses_mean n octets h fit =
     let xs = addresses_from 0 octets in (
       xs,
@@ -204,7 +204,7 @@ content_stays (Addresses n) p c hp m a =
     let own = addresses_from 0 a.addresses in
     let same : m.0 ≡ own = one_cut_lem p m.0 own m.1 (record { frames = AreFrames-complete own a.complete; string = a.string }) in
     let are : of_length n (payloads m.0) ≡ a.addresses = ap (λ xs. of_length n (payloads xs)) same ∙ of_length-addresses n 0 a.addresses a.each in
-    ap content_payload m.2 ∙ ap (λ t. spelled (addresses_from 0 t)) are ∙ sym a.string
+    ap content_payload m.2 ∙ ap (λ t. bytes_of_frames (addresses_from 0 t)) are ∙ sym a.string
 
 -- the payload is canonical if it is what is written for its content
 pub content_allowed : (s : Shape) (p : List ℕ) (c : Content) → IsBytes p → length p ≤ 65531 → Means s p c → content_payload c ≡ p → IsCanonicalContent s p
@@ -213,7 +213,7 @@ content_allowed (Nested flagged rows) p c hp hl m e =
     (fixed_iff_canonical (leaf_reading rows) (leaf_holding rows) (leaf_writing rows) p (written_leaves m.0) hp (rewritten rows p m.0 hp m.1)).0 (sym (ap content_payload m.2) ∙ e)
 content_allowed (Addresses n) p c hp hl m e =
     let octets = of_length n (payloads m.0) in
-    let is : spelled (addresses_from 0 octets) ≡ p = sym (ap content_payload m.2) ∙ e in
+    let is : bytes_of_frames (addresses_from 0 octets) ≡ p = sym (ap content_payload m.2) ∙ e in
     record { addresses = octets; each = sizes n octets (octets-frames n m.0 (known_of p m.0 hp m.1)); complete = complete_addresses 0 octets (omega (arith, ap length is)); string = sym is }
 
 -- a canonical payload has a content
@@ -246,7 +246,7 @@ content_cut_allowed (Nested flagged rows) p c hp m fit =
 content_cut_allowed (Addresses n) p c hp m fit =
     let octets = of_length n (payloads m.0) in
     let each = octets-frames n m.0 (known_of p m.0 hp m.1) in
-    let within : length (spelled (addresses_from 0 octets)) ≤ 65531 = subst (λ d. length (content_payload d) ≤ 65531) m.2 fit in
+    let within : length (bytes_of_frames (addresses_from 0 octets)) ≤ 65531 = subst (λ d. length (content_payload d) ≤ 65531) m.2 fit in
     subst (λ d. IsCanonicalContent (Addresses n) (content_payload (content_cut d))) (sym m.2)
     (record { addresses = octets; each = sizes n octets each; complete = complete_addresses 0 octets (omega arith); string = refl })
 

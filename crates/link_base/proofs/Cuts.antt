@@ -1,7 +1,7 @@
 -- Bytes can be split into frames in at most one way.
 use Rattle.std.proofs.Common.{◌≡◌, ℕ, ◌+◌, ◌/◌, ◌%◌, List, [], ◌∷◌, ◌++◌, length, take, drop, refl, sym, ap, ap₂, ◌∙◌, arith, append_assoc, length-append}
 use Rattle.std.proofs.lemmas.List.{take_at, drop_at, append-nil}
-use Rattle.link_base.specs.Frame.{Frame, Frames, IsFrame, IsComplete, AreFrames, frame_bytes, spelled, gap}
+use Rattle.link_base.specs.Frame.{Frame, Frames, IsFrame, IsComplete, AreFrames, frame_bytes, bytes_of_frames, gap}
 
 -- frames with equal parts are equal
 pub same_frame : (x y : Frame) → x.kind_field ≡ y.kind_field → x.payload ≡ y.payload → x.padding ≡ y.padding → x ≡ y
@@ -49,7 +49,7 @@ pub same_gap : (x y : Frame) → x.payload ≡ y.payload → gap x.payload ≡ g
 same_gap x y e = ap gap e
 
 -- lists of frames with the same bytes are equal
-one_cut_by : (xs ys : List Frame) → AreFrames xs → AreFrames ys → spelled xs ≡ spelled ys → xs ≡ ys
+one_cut_by : (xs ys : List Frame) → AreFrames xs → AreFrames ys → bytes_of_frames xs ≡ bytes_of_frames ys → xs ≡ ys
 one_cut_by [] [] hx hy e = refl
 one_cut_by [] (y ∷ ys) hx hy e = absurd cc
 one_cut_by (x ∷ xs) [] hx hy e = absurd cc
@@ -57,17 +57,17 @@ one_cut_by (x ∷ []) (y ∷ []) hx hy e =
     let same = SameFront-frames x y [] [] hx hy e in
     ap (λ z. z ∷ []) (same_frame x y same.kind_field same.payload (sym (append-nil x.padding) ∙ same.rest ∙ append-nil y.padding))
 one_cut_by (x ∷ []) (y ∷ y2 ∷ ys) hx hy e =
-    let same = SameFront-frames x y [] (spelled (y2 ∷ ys)) hx (IsFrame-complete y hy.0) e in
+    let same = SameFront-frames x y [] (bytes_of_frames (y2 ∷ ys)) hx (IsFrame-complete y hy.0) e in
     let g = same_gap x y same.payload in
-    absurd (omega (arith, ap length same.rest, length-append x.padding [], length-append y.padding (spelled (y2 ∷ ys)), hx.padding, hy.0.padding))
+    absurd (omega (arith, ap length same.rest, length-append x.padding [], length-append y.padding (bytes_of_frames (y2 ∷ ys)), hx.padding, hy.0.padding))
 one_cut_by (x ∷ x2 ∷ xs) (y ∷ []) hx hy e =
-    let same = SameFront-frames x y (spelled (x2 ∷ xs)) [] (IsFrame-complete x hx.0) hy e in
+    let same = SameFront-frames x y (bytes_of_frames (x2 ∷ xs)) [] (IsFrame-complete x hx.0) hy e in
     let g = same_gap x y same.payload in
-    absurd (omega (arith, ap length same.rest, length-append y.padding [], length-append x.padding (spelled (x2 ∷ xs)), hy.padding, hx.0.padding))
+    absurd (omega (arith, ap length same.rest, length-append y.padding [], length-append x.padding (bytes_of_frames (x2 ∷ xs)), hy.padding, hx.0.padding))
 one_cut_by (x ∷ x2 ∷ xs) (y ∷ y2 ∷ ys) hx hy e =
-    let same = SameFront-frames x y (spelled (x2 ∷ xs)) (spelled (y2 ∷ ys)) (IsFrame-complete x hx.0) (IsFrame-complete y hy.0) e in
+    let same = SameFront-frames x y (bytes_of_frames (x2 ∷ xs)) (bytes_of_frames (y2 ∷ ys)) (IsFrame-complete x hx.0) (IsFrame-complete y hy.0) e in
     let g = same_gap x y same.payload in
-    let parts = same_parts x.padding (spelled (x2 ∷ xs)) y.padding (spelled (y2 ∷ ys)) (omega (arith, hx.0.padding, hy.0.padding)) same.rest in
+    let parts = same_parts x.padding (bytes_of_frames (x2 ∷ xs)) y.padding (bytes_of_frames (y2 ∷ ys)) (omega (arith, hx.0.padding, hy.0.padding)) same.rest in
     ap₂ (λ a b. a ∷ b) (same_frame x y same.kind_field same.payload parts.0) (one_cut_by (x2 ∷ xs) (y2 ∷ ys) hx.1 hy.1 parts.1)
 
 -- bytes can be split into frames in at most one way

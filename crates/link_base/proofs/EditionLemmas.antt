@@ -4,7 +4,7 @@ use Rattle.std.specs.Prelude.{◌==◌}
 use Rattle.std.specs.List.{AllByRecursion}
 use Rattle.std.proofs.lemmas.Bool.{cond_both, cond-false, eqb-true}
 use Rattle.link_base.specs.declared.wire.fault.DecodeFault.{DecodeFault}
-use Rattle.link_base.specs.Frame.{Frame, IsComplete, AreFrames, kind_of, frame_bytes, spelled}
+use Rattle.link_base.specs.Frame.{Frame, IsComplete, AreFrames, kind_of, frame_bytes, bytes_of_frames}
 use Rattle.link_base.specs.Class.{is_listed}
 use Rattle.link_base.specs.Wire.{Reading, FaultsHere, Reads, IsCanonicalFrame, CanonicalBy}
 use Rattle.link_base.specs.Table.{Row, row_at, class_at, Table, AttrValue, GivesBy, Gives, allows_by, Allows}
@@ -50,7 +50,7 @@ behind : (x y : Frame) (rest : List ℕ) → IsComplete x → StandsIn rest y �
 behind x y rest h stands = record {
   front = x ∷ stands.front;
   rest = stands.rest;
-  string = ap (λ t. frame_bytes x ++ t) stands.string ∙ sym (append_assoc (frame_bytes x) (spelled stands.front) stands.rest);
+  string = ap (λ t. frame_bytes x ++ t) stands.string ∙ sym (append_assoc (frame_bytes x) (bytes_of_frames stands.front) stands.rest);
   complete = (h, stands.complete);
   begins = stands.begins;
 }
@@ -64,13 +64,13 @@ rest_of : (Holds : ℕ → Type 0) (x : Frame) (rest : List ℕ) → IsComplete 
 rest_of Holds x rest h each y stands = each y (behind x y rest h stands)
 
 -- the first of some frames is in their bytes
-first_stands : (x : Frame) (xs : List Frame) → AreFrames (x ∷ xs) → StandsIn (spelled (x ∷ xs)) x
+first_stands : (x : Frame) (xs : List Frame) → AreFrames (x ∷ xs) → StandsIn (bytes_of_frames (x ∷ xs)) x
 first_stands x xs h = record {
   front = [];
-  rest = spelled (x ∷ xs);
+  rest = bytes_of_frames (x ∷ xs);
   string = refl;
   complete = tt;
-  begins = record { rest = spelled xs; is = AreFrames-head x xs h; string = refl };
+  begins = record { rest = bytes_of_frames xs; is = AreFrames-head x xs h; string = refl };
 }
 
 -- ---- decoding
@@ -78,31 +78,31 @@ first_stands x xs h = record {
 module _ {V : Type 0} (one two : Reading V) (Holds : ℕ → Type 0)
     (same : (f : ℕ) (p : List ℕ) (r : Result V DecodeFault) → Holds f → one f p r → two f p r) where
   -- frames that decode to values in one way also do in the other
-  each_value : (xs : List Frame) (vs : List V) → AreFrames xs → Each Holds (spelled xs) → ReadEach one xs vs → ReadEach two xs vs
+  each_value : (xs : List Frame) (vs : List V) → AreFrames xs → Each Holds (bytes_of_frames xs) → ReadEach one xs vs → ReadEach two xs vs
   each_value [] vs are each h = h
   each_value (x ∷ xs) [] are each h = h
   each_value (x ∷ []) (v ∷ vs) are each h = (same x.kind_field x.payload (Ok v) (each x (first_stands x [] are)) h.0, h.1)
   each_value (x ∷ y ∷ xs) (v ∷ vs) are each h = (
     same x.kind_field x.payload (Ok v) (each x (first_stands x (y ∷ xs) are)) h.0,
-    each_value (y ∷ xs) vs are.1 (rest_of Holds x (spelled (y ∷ xs)) are.0 each) h.1,
+    each_value (y ∷ xs) vs are.1 (rest_of Holds x (bytes_of_frames (y ∷ xs)) are.0 each) h.1,
   )
 
   -- so do complete frames before a rest
-  have_values : (xs : List Frame) (rest : List ℕ) → AllByRecursion IsComplete xs → Each Holds (spelled xs ++ rest) → HaveValues one xs → HaveValues two xs
+  have_values : (xs : List Frame) (rest : List ℕ) → AllByRecursion IsComplete xs → Each Holds (bytes_of_frames xs ++ rest) → HaveValues one xs → HaveValues two xs
   have_values [] rest h each values = tt
   have_values (x ∷ xs) rest h each values =
-      let joined = append_assoc (frame_bytes x) (spelled xs) rest in
+      let joined = append_assoc (frame_bytes x) (bytes_of_frames xs) rest in
       let next = subst (Each Holds) joined each in (
-        (values.0.0, same x.kind_field x.payload (Ok values.0.0) (next x (at_front x (spelled xs ++ rest) h.0)) values.0.1),
-        have_values xs rest h.1 (rest_of Holds x (spelled xs ++ rest) h.0 next) values.1,
+        (values.0.0, same x.kind_field x.payload (Ok values.0.0) (next x (at_front x (bytes_of_frames xs ++ rest) h.0)) values.0.1),
+        have_values xs rest h.1 (rest_of Holds x (bytes_of_frames xs ++ rest) h.0 next) values.1,
       )
 
   -- so does an error at the start of the rest
-  faults_here : (front : List Frame) (rest : List ℕ) (fault : DecodeFault) → AllByRecursion IsComplete front → Each Holds (spelled front ++ rest)
+  faults_here : (front : List Frame) (rest : List ℕ) (fault : DecodeFault) → AllByRecursion IsComplete front → Each Holds (bytes_of_frames front ++ rest)
       → FaultsHere one rest fault → FaultsHere two rest fault
   faults_here front rest fault h each (inl cause) = inl cause
   faults_here front rest fault h each (inr bad) =
-      let stands : StandsIn (spelled front ++ rest) bad.0 = record { front = front; rest = rest; string = refl; complete = h; begins = bad.1 } in
+      let stands : StandsIn (bytes_of_frames front ++ rest) bad.0 = record { front = front; rest = rest; string = refl; complete = h; begins = bad.1 } in
       inr (bad.0, bad.1, same bad.0.kind_field bad.0.payload (Err fault) (each bad.0 stands) bad.2)
 
   -- a list decodes to the same result
@@ -129,15 +129,15 @@ module _ {V : Type 0} (one two : Reading V) (Holds : ℕ → Type 0)
 
 module _ (one two : ℕ → List ℕ → Type 0) (Holds : ℕ → Type 0) (same : (f : ℕ) (p : List ℕ) → Holds f → one f p → two f p) where
   -- frames that are canonical in one way are in the other
-  canonical_frames : (xs : List Frame) → Each Holds (spelled xs) → AllByRecursion (IsCanonicalFrame one) xs → AllByRecursion (IsCanonicalFrame two) xs
+  canonical_frames : (xs : List Frame) → Each Holds (bytes_of_frames xs) → AllByRecursion (IsCanonicalFrame one) xs → AllByRecursion (IsCanonicalFrame two) xs
   canonical_frames [] each h = tt
   canonical_frames (x ∷ xs) each h = (
     record {
       complete = h.0.complete;
       zeros = h.0.zeros;
-      allowed = same x.kind_field x.payload (each x (at_front x (spelled xs) h.0.complete)) h.0.allowed;
+      allowed = same x.kind_field x.payload (each x (at_front x (bytes_of_frames xs) h.0.complete)) h.0.allowed;
     },
-    canonical_frames xs (rest_of Holds x (spelled xs) h.0.complete each) h.1,
+    canonical_frames xs (rest_of Holds x (bytes_of_frames xs) h.0.complete each) h.1,
   )
 
   -- a list that is canonical in one way is in the other

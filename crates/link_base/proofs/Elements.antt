@@ -39,18 +39,18 @@ lifted_list : (rows : Rows) (flagged : Bool) (k : ℕ) (p : List ℕ) (v : AttrV
 lifted_list rows flagged k p v (Err e) h is = absurd cc
 lifted_list rows flagged k p v (Ok vs) h is = record { values = map lift vs; wire = record { frames = h.frames; string = h.string; values = lifted_each rows h.frames vs h.values } }
 
-no_list : (c : Class) (p : List ℕ) (bytes : Bor (List ℕ)) (told : Bool) → Borrows (Some (One c)) p (borrowed.List bytes told) → ⊥
-no_list (Unsigned n) p bytes told h = h
-no_list c p bytes told h = h
+no_list : (c : Class) (p : List ℕ) (bytes : Bor (List ℕ)) (stated : Bool) → Borrows (Some (One c)) p (borrowed.List bytes stated) → ⊥
+no_list (Unsigned n) p bytes stated h = h
+no_list c p bytes stated h = h
 
-list_by : (o : Option Shape) (f : ℕ) (p : List ℕ) (v : AttrValue) (bytes : Bor (List ℕ)) (told : Bool) → GivesBy o f p (Ok v) → Borrows o p (borrowed.List bytes told) → Decodes (elements_by o) bytes.now
-list_by None f p v bytes told given h = absurd h
-list_by (Some (One c)) f p v bytes told given h = absurd (no_list c p bytes told h)
-list_by (Some (Addresses n)) f p v bytes told given h = absurd h
-list_by (Some (Nested flagged rows)) f p v bytes told given h =
+list_by : (o : Option Shape) (f : ℕ) (p : List ℕ) (v : AttrValue) (bytes : Bor (List ℕ)) (stated : Bool) → GivesBy o f p (Ok v) → Borrows o p (borrowed.List bytes stated) → Decodes (elements_by o) bytes.now
+list_by None f p v bytes stated given h = absurd h
+list_by (Some (One c)) f p v bytes stated given h = absurd (no_list c p bytes stated h)
+list_by (Some (Addresses n)) f p v bytes stated given h = absurd h
+list_by (Some (Nested flagged rows)) f p v bytes stated given h =
     subst (Decodes (lift_table rows)) (sym h) (lifted_list rows flagged (kind_of f) p v given.0 given.1 given.2)
 
 -- the attributes of a nested list that decodes
-pub elements_decode : (table : Table) (f : ℕ) (p : List ℕ) (bytes : Bor (List ℕ)) (told : Bool) → HasValue table f p → Borrows (class_at table (kind_of f)) p (borrowed.List bytes told)
+pub elements_decode : (table : Table) (f : ℕ) (p : List ℕ) (bytes : Bor (List ℕ)) (stated : Bool) → HasValue table f p → Borrows (class_at table (kind_of f)) p (borrowed.List bytes stated)
     → HasValues (elements_at table (kind_of f)) bytes.now
-elements_decode table f p bytes told has h none = has (λ v. none (list_by (class_at table (kind_of f)) f p v.0 bytes told v.1 h))
+elements_decode table f p bytes stated has h none = has (λ v. none (list_by (class_at table (kind_of f)) f p v.0 bytes stated v.1 h))

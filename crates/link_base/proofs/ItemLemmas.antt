@@ -5,7 +5,7 @@ use Rattle.std.proofs.lemmas.List.{length-append, length-drop}
 use Rattle.link_base.specs.declared.wire.buffer.NlaBuffer.{NlaBuffer}
 use Rattle.link_base.specs.declared.wire.iterator.NlasIterator.{NlasIterator}
 use Rattle.link_base.specs.declared.wire.fault.DecodeError.{DecodeError}
-use Rattle.link_base.specs.Frame.{Frame, BeginsWith, IsFrame, IsComplete, AreFrames, frame_bytes, spelled}
+use Rattle.link_base.specs.Frame.{Frame, BeginsWith, IsFrame, IsComplete, AreFrames, frame_bytes, bytes_of_frames}
 use Rattle.link_base.specs.Buffer.{kind_field_of, payload_of, frame_of, SplitsFirst}
 use Rattle.link_base.specs.IteratorItems.{NextFrame, AreItems, least_items, most_items, IsCount, seen, bytes_left}
 use Rattle.link_base.proofs.FrameAtFront.{Splits, splits, step_of}
@@ -36,17 +36,17 @@ some_bytes (b ∷ s) e = omega arith
 
 -- ---- one frame more
 
-are_more : (x : Frame) (xs : List Frame) → IsFrame x → (spelled xs ≡ []) ⊎ IsComplete x → AreFrames xs → AreFrames (x ∷ xs)
+are_more : (x : Frame) (xs : List Frame) → IsFrame x → (bytes_of_frames xs ≡ []) ⊎ IsComplete x → AreFrames xs → AreFrames (x ∷ xs)
 are_more x [] hx h k = hx
 are_more x (y ∷ xs) hx (inl e) k = absurd cc
 are_more x (y ∷ xs) hx (inr c) k = (c, k)
 
-end_or : (next : List ℕ) (xs : List Frame) (x : Frame) → next ≡ spelled xs → (next ≡ []) ⊎ IsComplete x → (spelled xs ≡ []) ⊎ IsComplete x
+end_or : (next : List ℕ) (xs : List Frame) (x : Frame) → next ≡ bytes_of_frames xs → (next ≡ []) ⊎ IsComplete x → (bytes_of_frames xs ≡ []) ⊎ IsComplete x
 end_or next xs x e (inl n) = inl (sym e ∙ n)
 end_or next xs x e (inr c) = inr c
 
-complete_of : (next : List ℕ) (front : List Frame) (rest : List ℕ) (x : Frame) → next ≡ spelled front ++ rest → 0 < length rest → (next ≡ []) ⊎ IsComplete x → IsComplete x
-complete_of next front rest x e some (inl n) = absurd (omega (arith, ap length e, ap length n, length-append (spelled front) rest))
+complete_of : (next : List ℕ) (front : List Frame) (rest : List ℕ) (x : Frame) → next ≡ bytes_of_frames front ++ rest → 0 < length rest → (next ≡ []) ⊎ IsComplete x → IsComplete x
+complete_of next front rest x e some (inl n) = absurd (omega (arith, ap length e, ap length n, length-append (bytes_of_frames front) rest))
 complete_of next front rest x e some (inr c) = c
 
 -- a frame, and then the items of the rest
@@ -65,7 +65,7 @@ after_frame s next b items split (inr (xs, rest, c, complete, string, some, faul
       rest,
       c,
       (complete_of next xs rest x string some split.last, complete),
-      split.string ∙ ap (λ t. frame_bytes x ++ t) string ∙ sym (append_assoc (frame_bytes x) (spelled xs) rest),
+      split.string ∙ ap (λ t. frame_bytes x ++ t) string ∙ sym (append_assoc (frame_bytes x) (bytes_of_frames xs) rest),
       some,
       fault,
       ap (λ t. Ok (kind_field_of b, payload_of b) ∷ t) same,

@@ -2,18 +2,18 @@
 use Rattle.std.proofs.Common.{◌≡◌, ℕ, ◌+◌, ◌-◌, ◌%◌, ◌≤◌, List, [], ◌∷◌, ◌++◌, length, Ok, sym, ap, ap₂, ◌∙◌, arith, append_assoc, length-append}
 use Rattle.std.specs.List.{AllByRecursion}
 use Rattle.link_base.specs.declared.wire.fault.DecodeFault.{DecodeFault}
-use Rattle.link_base.specs.Frame.{Frame, IsComplete, AreFrames, frame_bytes, spelled, pad}
+use Rattle.link_base.specs.Frame.{Frame, IsComplete, AreFrames, frame_bytes, bytes_of_frames, pad}
 use Rattle.link_base.specs.Wire.{Reading, FrameGives, Wire, FirstFault}
 use Rattle.link_base.proofs.FrameBytes.{length-frame_bytes, length-complete}
 use Rattle.link_base.proofs.Readings.{AreFrames-cons, ReadEach, HaveValues}
-use Rattle.link_base.proofs.Written.{spelled-append, all_append}
+use Rattle.link_base.proofs.Written.{bytes_of_frames-append, all_append}
 
 -- a frame whose length is a multiple of four has complete padding
 last_complete : (n z : ℕ) → z ≤ pad (4 + n) - (4 + n) → (4 + n + z) % 4 ≡ 0 → z ≡ pad (4 + n) - (4 + n)
 last_complete n z le e = omega arith
 
 -- frames with a total length that is a multiple of four are complete
-all_complete : (xs : List Frame) → AreFrames xs → length (spelled xs) % 4 ≡ 0 → AllByRecursion IsComplete xs
+all_complete : (xs : List Frame) → AreFrames xs → length (bytes_of_frames xs) % 4 ≡ 0 → AllByRecursion IsComplete xs
 all_complete [] h e = tt
 all_complete (x ∷ []) h e =
     let len = length-frame_bytes x in (
@@ -26,7 +26,7 @@ all_complete (x ∷ []) h e =
     )
 all_complete (x ∷ y ∷ xs) h e =
     let len = length-complete x h.0 in
-    (h.0, all_complete (y ∷ xs) h.1 (omega (arith, length-append (frame_bytes x) (spelled (y ∷ xs)))))
+    (h.0, all_complete (y ∷ xs) h.1 (omega (arith, length-append (frame_bytes x) (bytes_of_frames (y ∷ xs)))))
 
 -- complete frames, then frames
 frames_append : (xs ys : List Frame) → AllByRecursion IsComplete xs → AreFrames ys → AreFrames (xs ++ ys)
@@ -55,7 +55,7 @@ module _ {V : Type 0} (gives : Reading V) where
         frames = w.frames ++ u.frames;
         string = record {
           frames = frames_append w.frames u.frames done u.string.frames;
-          string = ap₂ (λ x y. x ++ y) w.string.string u.string.string ∙ sym (spelled-append w.frames u.frames);
+          string = ap₂ (λ x y. x ++ y) w.string.string u.string.string ∙ sym (bytes_of_frames-append w.frames u.frames);
         };
         values = values_append w.frames u.frames vs ws w.values u.values;
       }
@@ -68,11 +68,11 @@ module _ {V : Type 0} (gives : Reading V) where
       record {
         front = w.frames ++ h.front;
         rest = h.rest;
-        string = ap₂ (λ x y. x ++ y) w.string.string h.string ∙ sym (append_assoc (spelled w.frames) (spelled h.front) h.rest)
-            ∙ ap (λ t. t ++ h.rest) (sym (spelled-append w.frames h.front));
+        string = ap₂ (λ x y. x ++ y) w.string.string h.string ∙ sym (append_assoc (bytes_of_frames w.frames) (bytes_of_frames h.front) h.rest)
+            ∙ ap (λ t. t ++ h.rest) (sym (bytes_of_frames-append w.frames h.front));
         complete = all_append IsComplete w.frames h.front done h.complete;
         values = all_append (λ x. (v : V) × FrameGives gives x (Ok v)) w.frames h.front (have_values w.frames vs w.values) h.values;
         some = h.some;
-        offset = omega (arith, h.offset, ap length w.string.string, ap length (spelled-append w.frames h.front), length-append (spelled w.frames) (spelled h.front));
+        offset = omega (arith, h.offset, ap length w.string.string, ap length (bytes_of_frames-append w.frames h.front), length-append (bytes_of_frames w.frames) (bytes_of_frames h.front));
         here = h.here;
       }

@@ -79,11 +79,11 @@ module _ {A : Type 0} (width : ℕ) (value : A → ℕ) where
   -- one more value has been parsed
   pub value_read : (i size : ℕ) (p : List ℕ) (xs ys : List A) (x : A) → size ≡ width → value x ≡ number (take (size * i + size - size * i) (drop (size * i) p))
       → bytes_of width (value x) ≡ take (size * i + size - size * i) (drop (size * i) p) → ys ≡ xs ++ x ∷ [] → AreRead width i 0 p (map value xs) → AreRead width (i + 1) 0 p (map value ys)
-  value_read i size p xs ys x e told octets more so_far =
+  value_read i size p xs ys x e stated octets more so_far =
       let at : size * i ≡ 0 + width * i = omega (arith, ap (λ n. n * i) e) in
       let len : size * i + size - size * i ≡ width = omega (arith, e) in
       read_more width i 0 (size * i) p (map value xs) (map value ys) (value x) at
-      (told ∙ ap (λ n. number (take n (drop (size * i) p))) len) (octets ∙ ap (λ n. take n (drop (size * i) p)) len)
+      (stated ∙ ap (λ n. number (take n (drop (size * i) p))) len) (octets ∙ ap (λ n. take n (drop (size * i) p)) len)
       (ap (map value) more ∙ map-append value xs (x ∷ [])) so_far
 
   -- all of them have been parsed

@@ -5,7 +5,7 @@ use Rattle.std.specs.List.{AllByRecursion, list_all}
 use Rattle.std.proofs.lemmas.Bool.{cases_Bool, cond-true, cond-false, and_parts, or_cases, eqb-true, cases_lt, false≢true, ltb-false}
 use Rattle.link_base.specs.Number.{IsBytes, number}
 use Rattle.link_base.specs.declared.wire.fault.Cause.TheVariants.{TooShort, WrongLength}
-use Rattle.link_base.specs.Frame.{Frame, Frames, AreFrames, kind_of, pad, frame_bytes, spelled}
+use Rattle.link_base.specs.Frame.{Frame, Frames, AreFrames, kind_of, pad, frame_bytes, bytes_of_frames}
 use Rattle.link_base.specs.Wire.{whole}
 use Rattle.link_base.specs.Class.{Exactly, AtLeast, Fixed, Multiple, AtMost, Class, Unsigned, Signed, Truth, Optional, Octets, Bytes, Headed, Many, Named, Protocol, Low, Empty, Limits, extent, length_cause, meant, written}
 use Rattle.link_base.specs.Table.{Row, row_at, class_at, Rows, Leaf, LeafGives, leaf_field, leaf_payload, written_leaves, Shape, One, Nested, Addresses, Content, Table, AttrValue, of_length, Gives, addresses_from, content_payload, Fits}
@@ -94,7 +94,7 @@ leaf_kept rows f p v k h = go (leaf_read (class_at rows (kind_of f)) f p v h)
         ap (λ w. length (leaf_payload w)) is ∙ kept_length c p kept.1 a
 
 -- a nested list is written with the length of the decoded one, padded
-list_kept : (rows : Rows) (xs : List Frame) (vs : List Leaf) → AreKept rows → AreFrames xs → ReadEach (LeafGives rows) xs vs → length (written_leaves vs) ≡ pad (length (spelled xs))
+list_kept : (rows : Rows) (xs : List Frame) (vs : List Leaf) → AreKept rows → AreFrames xs → ReadEach (LeafGives rows) xs vs → length (written_leaves vs) ≡ pad (length (bytes_of_frames xs))
 list_kept rows [] [] k hx r = omega arith
 list_kept rows [] (v ∷ vs) k hx r = absurd r
 list_kept rows (x ∷ xs) [] k hx r = absurd r
@@ -109,29 +109,29 @@ list_kept rows (x ∷ y ∷ xs) (v ∷ w ∷ vs) k hx r =
     let z = whole (leaf_field v) (leaf_payload v) in
     let own = length-complete x hx.0 in
     let rest = list_kept rows (y ∷ xs) (w ∷ vs) k hx.1 r.1 in
-    omega (arith, length-whole (leaf_field v) (leaf_payload v), length-append (frame_bytes z) (written_leaves (w ∷ vs)), length-append (frame_bytes x) (spelled (y ∷ xs)))
+    omega (arith, length-whole (leaf_field v) (leaf_payload v), length-append (frame_bytes z) (written_leaves (w ∷ vs)), length-append (frame_bytes x) (bytes_of_frames (y ∷ xs)))
 
 -- ---- addresses
 
 -- an element of a list of four-byte addresses takes eight bytes
-four_each : (i : ℕ) (octets : List (List ℕ)) → AllByRecursion (IsOctets 4) octets → length (spelled (addresses_from i octets)) ≡ 8 * length octets
+four_each : (i : ℕ) (octets : List (List ℕ)) → AllByRecursion (IsOctets 4) octets → length (bytes_of_frames (addresses_from i octets)) ≡ 8 * length octets
 four_each i [] h = omega arith
 four_each i (a ∷ others) h =
     let size = h.0.0 in
     let rest = four_each (i + 1) others h.1 in
-    omega (arith, length-whole i a, length-append (frame_bytes (whole i a)) (spelled (addresses_from (i + 1) others)))
+    omega (arith, length-whole i a, length-append (frame_bytes (whole i a)) (bytes_of_frames (addresses_from (i + 1) others)))
 
 -- an element of a list of sixteen-byte addresses takes twenty bytes
-sixteen_each : (i : ℕ) (octets : List (List ℕ)) → AllByRecursion (IsOctets 16) octets → length (spelled (addresses_from i octets)) ≡ 20 * length octets
+sixteen_each : (i : ℕ) (octets : List (List ℕ)) → AllByRecursion (IsOctets 16) octets → length (bytes_of_frames (addresses_from i octets)) ≡ 20 * length octets
 sixteen_each i [] h = omega arith
 sixteen_each i (a ∷ others) h =
     let size = h.0.0 in
     let rest = sixteen_each (i + 1) others h.1 in
-    omega (arith, length-whole i a, length-append (frame_bytes (whole i a)) (spelled (addresses_from (i + 1) others)))
+    omega (arith, length-whole i a, length-append (frame_bytes (whole i a)) (bytes_of_frames (addresses_from (i + 1) others)))
 
 -- decoded addresses fit
 addresses_fit : (n : ℕ) (p : List ℕ) (xs : List Frame) → (n == 4 || n == 16) ≡ true → IsBytes p → length p ≤ 65531 → Frames p xs
-    → length (spelled (addresses_from 0 (of_length n (payloads xs)))) ≤ 65531
+    → length (bytes_of_frames (addresses_from 0 (of_length n (payloads xs)))) ≤ 65531
 addresses_fit n p xs k hp hl w =
     let octets = of_length n (payloads xs) in
     let each = octets-frames n xs (known_of p xs hp w) in

@@ -6,7 +6,7 @@ use Rattle.link_base.specs.Number.{IsBytes}
 use Rattle.link_base.specs.declared.wire.fault.Cause.{Cause}
 use Rattle.link_base.specs.declared.wire.fault.DecodeFault.{DecodeFault}
 use Rattle.link_base.specs.declared.wire.fault.DecodeFault.TheVariants as faults
-use Rattle.link_base.specs.Frame.{Frame, IsFrame, IsComplete, AreFrames, frame_bytes, spelled, frame_fault}
+use Rattle.link_base.specs.Frame.{Frame, IsFrame, IsComplete, AreFrames, frame_bytes, bytes_of_frames, frame_fault}
 use Rattle.link_base.specs.Wire.{Reading, FrameGives, Wire, FirstFault, FaultsHere, Reads}
 use Rattle.link_base.specs.Lawful.{IsReading}
 use Rattle.link_base.proofs.Cuts.{IsFrame-complete, SameFront-frames, AreFrames-head, same_gap, same_parts, one_cut_lem}
@@ -43,20 +43,20 @@ AreFrames-cons x (y ∷ xs) h k = (h, k)
 
 -- what follows a first frame that is complete
 pub record NextFrames (x : Frame) (xs : List Frame) (y : Frame) (t : List ℕ) : Type 0 where
-  pub rest : spelled xs ≡ t
+  pub rest : bytes_of_frames xs ≡ t
   pub frames : AreFrames xs
 
 -- a list of frames that starts with a complete frame and has more bytes
 pub NextFrames-more : (x : Frame) (xs : List Frame) (y : Frame) (t : List ℕ) → AreFrames (x ∷ xs) → IsComplete y → 0 < length t
-    → frame_bytes x ++ spelled xs ≡ frame_bytes y ++ t → NextFrames x xs y t
+    → frame_bytes x ++ bytes_of_frames xs ≡ frame_bytes y ++ t → NextFrames x xs y t
 NextFrames-more x [] y t hx hy some e =
     let same = SameFront-frames x y [] t hx (IsFrame-complete y hy) e in
     let g = same_gap x y same.payload in
     absurd (omega (arith, ap length same.rest, length-append x.padding [], length-append y.padding t, hx.padding, hy.padding))
 NextFrames-more x (x2 ∷ xs) y t hx hy some e =
-    let same = SameFront-frames x y (spelled (x2 ∷ xs)) t (IsFrame-complete x hx.0) (IsFrame-complete y hy) e in
+    let same = SameFront-frames x y (bytes_of_frames (x2 ∷ xs)) t (IsFrame-complete x hx.0) (IsFrame-complete y hy) e in
     let g = same_gap x y same.payload in
-    let parts = same_parts x.padding (spelled (x2 ∷ xs)) y.padding t (omega (arith, hx.0.padding, hy.padding)) same.rest in
+    let parts = same_parts x.padding (bytes_of_frames (x2 ∷ xs)) y.padding t (omega (arith, hx.0.padding, hy.padding)) same.rest in
     record { rest = parts.1; frames = hx.1 }
 
 -- the frames decode to the values, one by one
@@ -87,13 +87,13 @@ module _ {V : Type 0} {gives : Reading V} (laws : IsReading gives) where
 
   -- frames that decode to values are not frames followed by an error
   exclusive : (xs front : List Frame) (vs : List V) (rest : List ℕ) (fault : DecodeFault) → AreFrames xs → ReadEach gives xs vs
-      → AllByRecursion IsComplete front → 0 < length rest → FaultsHere gives rest fault → spelled xs ≡ spelled front ++ rest → ⊥
-  exclusive [] front vs rest fault hx hv hy some here e = omega (arith, ap length e, length-append (spelled front) rest)
+      → AllByRecursion IsComplete front → 0 < length rest → FaultsHere gives rest fault → bytes_of_frames xs ≡ bytes_of_frames front ++ rest → ⊥
+  exclusive [] front vs rest fault hx hv hy some here e = omega (arith, ap length e, length-append (bytes_of_frames front) rest)
   exclusive (x ∷ xs) front [] rest fault hx hv hy some here e = hv
-  exclusive (x ∷ xs) [] (v ∷ vs) rest fault hx hv hy some here e = no_fault_here x (spelled xs) v rest fault (AreFrames-head x xs hx) hv.0 e here
+  exclusive (x ∷ xs) [] (v ∷ vs) rest fault hx hv hy some here e = no_fault_here x (bytes_of_frames xs) v rest fault (AreFrames-head x xs hx) hv.0 e here
   exclusive (x ∷ xs) (y ∷ front) (v ∷ vs) rest fault hx hv hy some here e =
-      let t = spelled front ++ rest in
-      let next = NextFrames-more x xs y t hx hy.0 (omega (arith, length-append (spelled front) rest)) (e ∙ append_assoc (frame_bytes y) (spelled front) rest) in
+      let t = bytes_of_frames front ++ rest in
+      let next = NextFrames-more x xs y t hx hy.0 (omega (arith, length-append (bytes_of_frames front) rest)) (e ∙ append_assoc (frame_bytes y) (bytes_of_frames front) rest) in
       exclusive xs front vs rest fault next.frames hv.1 hy.1 some here next.rest
 
   -- bytes do not both decode to values and have a first error
@@ -143,11 +143,11 @@ module _ {V : Type 0} {gives : Reading V} (laws : IsReading gives) where
     record {
       front = x ∷ later.front;
       rest = later.rest;
-      string = e ∙ ap (λ r. frame_bytes x ++ r) later.string ∙ sym (append_assoc (frame_bytes x) (spelled later.front) later.rest);
+      string = e ∙ ap (λ r. frame_bytes x ++ r) later.string ∙ sym (append_assoc (frame_bytes x) (bytes_of_frames later.front) later.rest);
       complete = (hx, later.complete);
       values = ((v, hv), later.values);
       some = later.some;
-      offset = omega (arith, later.offset, length-append (frame_bytes x) (spelled later.front));
+      offset = omega (arith, later.offset, length-append (frame_bytes x) (bytes_of_frames later.front));
       here = later.here;
     },
   )
@@ -225,25 +225,25 @@ module _ {V : Type 0} {gives : Reading V} (laws : IsReading gives) where
   -- complete frames that decode to values, then an error: the error and its offset are unique
   one_first_by : (xs ys : List Frame) (r t : List ℕ) (a b : DecodeFault) → AllByRecursion IsComplete xs → AllByRecursion IsComplete ys
       → HaveValues gives xs → HaveValues gives ys → FaultsHere gives r a → FaultsHere gives t b
-      → spelled xs ++ r ≡ spelled ys ++ t → (length (spelled xs) ≡ length (spelled ys)) × (a ≡ b)
+      → bytes_of_frames xs ++ r ≡ bytes_of_frames ys ++ t → (length (bytes_of_frames xs) ≡ length (bytes_of_frames ys)) × (a ≡ b)
   one_first_by [] [] r t a b hx hy vx vy ha hb e = (refl, one_here r a b ha (subst (λ s. FaultsHere gives s b) (sym e) hb))
   one_first_by [] (y ∷ ys) r t a b hx hy vx vy ha hb e =
-      absurd (no_fault_here y (spelled ys ++ t) vy.0.0 r a (IsFrame-complete y hy.0) vy.0.1 (sym (e ∙ append_assoc (frame_bytes y) (spelled ys) t)) ha)
+      absurd (no_fault_here y (bytes_of_frames ys ++ t) vy.0.0 r a (IsFrame-complete y hy.0) vy.0.1 (sym (e ∙ append_assoc (frame_bytes y) (bytes_of_frames ys) t)) ha)
   one_first_by (x ∷ xs) [] r t a b hx hy vx vy ha hb e =
-      absurd (no_fault_here x (spelled xs ++ r) vx.0.0 t b (IsFrame-complete x hx.0) vx.0.1 (sym (sym e ∙ append_assoc (frame_bytes x) (spelled xs) r)) hb)
+      absurd (no_fault_here x (bytes_of_frames xs ++ r) vx.0.0 t b (IsFrame-complete x hx.0) vx.0.1 (sym (sym e ∙ append_assoc (frame_bytes x) (bytes_of_frames xs) r)) hb)
   one_first_by (x ∷ xs) (y ∷ ys) r t a b hx hy vx vy ha hb e =
-      let s1 = spelled xs ++ r in
-      let s2 = spelled ys ++ t in
+      let s1 = bytes_of_frames xs ++ r in
+      let s2 = bytes_of_frames ys ++ t in
       let same = SameFront-frames x y s1 s2 (IsFrame-complete x hx.0) (IsFrame-complete y hy.0)
-      (sym (append_assoc (frame_bytes x) (spelled xs) r) ∙ e ∙ append_assoc (frame_bytes y) (spelled ys) t) in
+      (sym (append_assoc (frame_bytes x) (bytes_of_frames xs) r) ∙ e ∙ append_assoc (frame_bytes y) (bytes_of_frames ys) t) in
       let g = same_gap x y same.payload in
       let parts = same_parts x.padding s1 y.padding s2 (omega (arith, hx.0.padding, hy.0.padding)) same.rest in
       let rest = one_first_by xs ys r t a b hx.1 hy.1 vx.1 vy.1 ha hb parts.1 in (
         omega (
           arith,
           rest.0,
-          length-append (frame_bytes x) (spelled xs),
-          length-append (frame_bytes y) (spelled ys),
+          length-append (frame_bytes x) (bytes_of_frames xs),
+          length-append (frame_bytes y) (bytes_of_frames ys),
           length-frame_bytes x,
           length-frame_bytes y,
           ap length same.payload,

@@ -3,13 +3,13 @@ use Rattle.std.proofs.Common.{◌≡◌, ◌↔◌, ℕ, ◌≤◌, List, [], �
 use Rattle.std.specs.List.{AllByRecursion}
 use Rattle.std.proofs.lemmas.List.{length-replicate}
 use Rattle.link_base.specs.Number.{IsBytes}
-use Rattle.link_base.specs.Frame.{Frame, Frames, IsComplete, AreFrames, frame_bytes, spelled, gap, pad}
+use Rattle.link_base.specs.Frame.{Frame, Frames, IsComplete, AreFrames, frame_bytes, bytes_of_frames, gap, pad}
 use Rattle.link_base.specs.Wire.{Reading, FrameGives, Wire, written_by, FitsBy, IsCanonicalFrame, CanonicalBy, RewritingBy}
 use Rattle.link_base.specs.Lawful.{IsReading, IsHolding, IsWriting}
 use Rattle.link_base.proofs.Cuts.{same_frame, one_cut_lem}
 use Rattle.link_base.proofs.FrameBytes.{length-frame_bytes, length-complete}
 use Rattle.link_base.proofs.Readings.{ReadEach, one_values}
-use Rattle.link_base.proofs.Written.{AreFrames-complete, spelled-append, IsKnown, known_of, all_each, all_append, frame_for, spelled-frames, complete_frames, bytes-written, are_read, read_written}
+use Rattle.link_base.proofs.Written.{AreFrames-complete, bytes_of_frames-append, IsKnown, known_of, all_each, all_append, frame_for, bytes_of_frames-frames, complete_frames, bytes-written, are_read, read_written}
 
 -- ---- canonical lists
 
@@ -22,7 +22,7 @@ canonical_frames {allows} s c =
 pub canonical_joined : {allows : ℕ → List ℕ → Type 0} (s t : List ℕ) → CanonicalBy allows s → CanonicalBy allows t → CanonicalBy allows (s ++ t)
 canonical_joined {allows} s t c d = record {
   frames = c.frames ++ d.frames;
-  string = ap₂ (λ a b. a ++ b) c.string d.string ∙ sym (spelled-append c.frames d.frames);
+  string = ap₂ (λ a b. a ++ b) c.string d.string ∙ sym (bytes_of_frames-append c.frames d.frames);
   each = all_append (IsCanonicalFrame allows) c.frames d.frames c.each d.each;
 }
 
@@ -61,7 +61,7 @@ module _ {V : Type 0} {gives : Reading V} {field : V → ℕ} {payload : V → L
       let xs = r.wire.frames in
       let ws = map (frame_for field payload) vs in
       let complete = complete_frames holding vs (are_read holding s vs hs r.wire).all_in r.fit in
-      let own : Frames s ws = record { frames = AreFrames-complete ws complete; string = sym e ∙ r.string ∙ sym (spelled-frames field payload vs) } in
+      let own : Frames s ws = record { frames = AreFrames-complete ws complete; string = sym e ∙ r.string ∙ sym (bytes_of_frames-frames field payload vs) } in
       let same : xs ≡ ws = one_cut_lem s xs ws r.wire.string own in
       record { frames = xs; string = r.wire.string.string; each = canonical_each xs vs (known_of s xs hs r.wire.string) r.wire.values same }
 
@@ -77,7 +77,7 @@ module _ {V : Type 0} {gives : Reading V} {field : V → ℕ} {payload : V → L
 
   -- the values of canonical frames are written unchanged, and fit
   stays_each : (xs : List Frame) (vs : List V) → AllByRecursion (IsCanonicalFrame allows) xs → AllByRecursion IsKnown xs → ReadEach gives xs vs
-      → (written vs ≡ spelled xs) × FitEach vs
+      → (written vs ≡ bytes_of_frames xs) × FitEach vs
   stays_each [] [] h k hv = (refl, tt)
   stays_each [] (v ∷ vs) h k hv = absurd hv
   stays_each (x ∷ xs) [] h k hv = absurd hv
@@ -129,7 +129,7 @@ module _ {V : Type 0} {gives : Reading V} {field : V → ℕ} {payload : V → L
 
   -- what is written for decoded values is no longer than their frames, padded
   length-written : (xs : List Frame) (vs : List V) → AreFrames xs → AllByRecursion IsKnown xs → ReadEach gives xs vs → AllByRecursion IsComplete (map (frame_for field payload) vs)
-      → length (written vs) ≤ pad (length (spelled xs))
+      → length (written vs) ≤ pad (length (bytes_of_frames xs))
   length-written [] [] hx k hv done = omega arith
   length-written [] (v ∷ vs) hx k hv done = absurd hv
   length-written (x ∷ xs) [] hx k hv done = absurd hv
@@ -144,7 +144,7 @@ module _ {V : Type 0} {gives : Reading V} {field : V → ℕ} {payload : V → L
       let len = length-complete (frame_for field payload v) done.0 in
       let own = length-complete x hx.0 in
       let rest = length-written (y ∷ xs) (w ∷ vs) hx.1 k.1 hv.1 done.1 in
-      omega (arith, length-append (frame_bytes (frame_for field payload v)) (written (w ∷ vs)), length-append (frame_bytes x) (spelled (y ∷ xs)))
+      omega (arith, length-append (frame_bytes (frame_for field payload v)) (written (w ∷ vs)), length-append (frame_bytes x) (bytes_of_frames (y ∷ xs)))
 
   -- a rewriting is no longer than the input, padded
   pub never_longer : (s t : List ℕ) → IsBytes s → RewritingBy gives field payload s t → length t ≤ pad (length s)
@@ -203,7 +203,7 @@ module _ {V : Type 0} {gives : Reading V} {field : V → ℕ} {payload : V → L
       let vs = map cut r.values in
       let known = are_cut s t hs r in
       let done = complete_frames holding vs (are_read holding t vs (rewriting_bytes s t hs r) (reads_back s t hs r)).all_in known.fit in
-      record { frames = map (frame_for field payload) vs; string = sym (spelled-frames field payload vs); each = canonical_frames_of vs done known.allowed }
+      record { frames = map (frame_for field payload) vs; string = sym (bytes_of_frames-frames field payload vs); each = canonical_frames_of vs done known.allowed }
 
   -- the rewriting of a rewriting is its own rewriting
   pub third : (s t : List ℕ) → IsBytes s → (r : RewritingBy gives field payload s t)

@@ -6,13 +6,13 @@ use Rattle.link_base.specs.declared.wire.fault.Cause.{Cause}
 use Rattle.link_base.specs.declared.wire.fault.DecodeFault.{DecodeFault}
 use Rattle.link_base.specs.Class.{Class, Value, extent, length_cause, unless, meant}
 use Rattle.link_base.specs.Number.{IsBytes}
-use Rattle.link_base.specs.Frame.{Frame, BeginsWith, bare, kind_of, pad, frame_bytes, spelled}
+use Rattle.link_base.specs.Frame.{Frame, BeginsWith, bare, kind_of, pad, frame_bytes, bytes_of_frames}
 use Rattle.link_base.specs.Layout.{number_at}
 use Rattle.link_base.specs.Wire.{Reading, FrameGives}
 use Rattle.link_base.specs.Table.{Rows, Shape, One, Table, AttrValue, Other, Gives, GivesBy, class_at, single_case}
 use Rattle.link_base.specs.Default.{default_table}
 use Rattle.link_base.specs.Lift.{lift_table}
-use Rattle.link_base.specs.Checked.{Passes, Settles}
+use Rattle.link_base.specs.Checked.{Passes, AllDecode}
 use Rattle.link_base.proofs.Lifted.{lift_option, class_at-lift}
 use Rattle.link_base.proofs.Checks.{accepted_one}
 use Rattle.link_base.proofs.FrameBytes.{length-frame_bytes, bytes-back}
@@ -31,9 +31,9 @@ zip_length P [] (y ∷ ys) h = absurd h
 zip_length P (x ∷ xs) [] h = absurd h
 zip_length P (x ∷ xs) (y ∷ ys) h = ap suc (zip_length P xs ys h.1)
 
-least : (xs : List Frame) → length xs ≤ length (spelled xs)
+least : (xs : List Frame) → length xs ≤ length (bytes_of_frames xs)
 least [] = omega arith
-least (x ∷ xs) = omega (arith, length-append (frame_bytes x) (spelled xs), length-frame_bytes x, least xs)
+least (x ∷ xs) = omega (arith, length-append (frame_bytes x) (bytes_of_frames xs), length-frame_bytes x, least xs)
 
 module _ {V : Type 0} (gives : Reading V) (s : List ℕ) where
   -- the values so far, with as many frames
@@ -54,11 +54,11 @@ module _ {V : Type 0} (gives : Reading V) (s : List ℕ) where
   pub passes_few : (n : ℕ) (rest : List ℕ) → Passes gives s n rest → n + length rest ≤ length s
   passes_few n rest h =
       let w = underway n rest h in
-      omega (arith, w.counted.many, least w.counted.front, ap length w.counted.string, length-append (spelled w.counted.front) rest)
+      omega (arith, w.counted.many, least w.counted.front, ap length w.counted.string, length-append (bytes_of_frames w.counted.front) rest)
 
   -- what follows consists of bytes
   pub passes_bytes : (n : ℕ) (rest : List ℕ) → Passes gives s n rest → IsBytes s → IsBytes rest
-  passes_bytes n rest (vs, b, many) known = bytes-back (spelled b.frames) rest (subst IsBytes b.string known)
+  passes_bytes n rest (vs, b, many) known = bytes-back (bytes_of_frames b.frames) rest (subst IsBytes b.string known)
 
   -- none yet
   pub passes_none : Passes gives s 0 s
@@ -68,7 +68,7 @@ module _ {V : Type 0} (gives : Reading V) (s : List ℕ) where
   pub passes_more : (n : ℕ) (rest next : List ℕ) (f : ℕ) (p : List ℕ) → Passes gives s n rest → rest ≢ [] → Splits rest f p next → (v : V) × gives f p (Ok v) → Passes gives s (n + 1) next
   passes_more n rest next f p h some split given = passes_of (n + 1) next (h.0 ++ given.0 ∷ []) (underway_more gives s n rest next h.0 f p given.0 (underway n rest h) some split given.1)
 
--- ---- attributes that settle others
+-- ---- attributes that show that others decode
 
 by_cause : (o : Option Cause) (k : ℕ) (w : Value) (v : AttrValue) → ok v ≡ single_case k (unless o w) → o ≡ None
 by_cause None k w v e = refl
@@ -80,29 +80,29 @@ IsNoList None = Unit {0}
 IsNoList (Some (One c)) = Unit {0}
 IsNoList (Some shape) = ⊥
 
-settled_by : (o : Option Shape) (f : ℕ) (p : List ℕ) → IsNoList o → (v : AttrValue) × GivesBy o f p (Ok v)
+all_decoded_by : (o : Option Shape) (f : ℕ) (p : List ℕ) → IsNoList o → (v : AttrValue) × GivesBy o f p (Ok v)
     → (q : List ℕ) → length q ≡ length p → (v : AttrValue) × GivesBy o f q (Ok v)
-settled_by None f p h given q same = (Other f q, refl)
-settled_by (Some (One c)) f p h given q same = accepted_one c (kind_of f) q (ap (λ n. length_cause (extent c) n) same ∙ by_cause (length_cause (extent c) (length p)) (kind_of f) (meant c p) given.0 given.1)
-settled_by (Some shape) f p h given q same = absurd h
+all_decoded_by None f p h given q same = (Other f q, refl)
+all_decoded_by (Some (One c)) f p h given q same = accepted_one c (kind_of f) q (ap (λ n. length_cause (extent c) n) same ∙ by_cause (length_cause (extent c) (length p)) (kind_of f) (meant c p) given.0 given.1)
+all_decoded_by (Some shape) f p h given q same = absurd h
 
--- an attribute that decodes and is no list settles those of its type and length
-pub settled : (table : Table) (f : ℕ) (p : List ℕ) → IsNoList (class_at table (kind_of f)) → (v : AttrValue) × Gives table f p (Ok v) → Settles (Gives table) f (length p)
-settled table f p h given q same = settled_by (class_at table (kind_of f)) f p h given q same
+-- if an attribute decodes and is no list, those of its type and length decode
+pub all_decoded : (table : Table) (f : ℕ) (p : List ℕ) → IsNoList (class_at table (kind_of f)) → (v : AttrValue) × Gives table f p (Ok v) → AllDecode (Gives table) f (length p)
+all_decoded table f p h given q same = all_decoded_by (class_at table (kind_of f)) f p h given q same
 
 no_lists : (o : Option Class) → IsNoList (lift_option o)
 no_lists None = tt
 no_lists (Some c) = tt
 
 -- so does any that decodes, in a table without lists
-pub leaf_settled : (table : Table) (rows : Rows) (f : ℕ) (p : List ℕ) → table ≡ lift_table rows → (v : AttrValue) × Gives table f p (Ok v) → Settles (Gives table) f (length p)
-leaf_settled table rows f p is given =
+pub leaves_decode : (table : Table) (rows : Rows) (f : ℕ) (p : List ℕ) → table ≡ lift_table rows → (v : AttrValue) × Gives table f p (Ok v) → AllDecode (Gives table) f (length p)
+leaves_decode table rows f p is given =
     let known : class_at table (kind_of f) ≡ lift_option (class_at rows (kind_of f)) = ap (λ t. class_at t (kind_of f)) is ∙ class_at-lift rows (kind_of f) in
-    settled table f p (subst IsNoList (sym known) (no_lists (class_at rows (kind_of f)))) given
+    all_decoded table f p (subst IsNoList (sym known) (no_lists (class_at rows (kind_of f)))) given
 
 -- any attribute without a row decodes
-pub settled_any : (f n : ℕ) → Settles (Gives default_table) f n
-settled_any f n p same = (Other f p, refl)
+pub elements_decode_all : (f n : ℕ) → AllDecode (Gives default_table) f n
+elements_decode_all f n p same = (Other f p, refl)
 
 -- ---- attributes of one length
 

@@ -13,7 +13,7 @@ use Rattle.link_base.specs.declared.wire.fault.DecodeError.{DecodeError}
 use Rattle.link_base.specs.declared.wire.fault.DecodeError.TheVariants as errors
 use Rattle.link_base.specs.declared.wire.fault.ListError.{ListError}
 use Rattle.link_base.specs.declared.wire.fault.ListError.TheVariants as list_errors
-use Rattle.link_base.specs.Frame.{Frame, BeginsWith, bare, spelled, pad, frame_fault, max_payload}
+use Rattle.link_base.specs.Frame.{Frame, BeginsWith, bare, bytes_of_frames, pad, frame_fault, max_payload}
 use Rattle.link_base.specs.Wire.{Reading, Wire, FirstFault, FrameGives}
 use Rattle.link_base.specs.Table.{Table, AttrValue, Gives, TakesMemory, Fits, written_payload, written_frame, written_list}
 use Rattle.link_base.specs.Lawful.{IsLawful}
@@ -60,7 +60,7 @@ module _ {V : Type 0} (gives : Reading V) (s : List ℕ) where
         complete = all_complete rest h.front h.frames some;
         values = all_zip-all (λ x v. FrameGives gives x (Ok v)) h.front vs w.values;
         some = some_bytes rest some;
-        offset = omega (arith, place, ap length h.string, length-append (spelled h.front) rest);
+        offset = omega (arith, place, ap length h.string, length-append (bytes_of_frames h.front) rest);
         here = inl (c, bad, refl);
       }
 
@@ -77,7 +77,7 @@ module _ {V : Type 0} (gives : Reading V) (s : List ℕ) where
         complete = all_complete rest h.front h.frames some;
         values = all_zip-all (λ x v. FrameGives gives x (Ok v)) h.front vs w.values;
         some = some_bytes rest some;
-        offset = omega (arith, place, ap length h.string, length-append (spelled h.front) rest);
+        offset = omega (arith, place, ap length h.string, length-append (bytes_of_frames h.front) rest);
         here = inr (bare f p, b, given);
       }
 
@@ -87,7 +87,7 @@ module _ {V : Type 0} (gives : Reading V) (s : List ℕ) where
       let h = w.counted in
       record {
         frames = h.front;
-        string = record { frames = are_frames rest h.front h.frames; string = h.string ∙ ap (λ t. spelled h.front ++ t) none ∙ append-nil (spelled h.front) };
+        string = record { frames = are_frames rest h.front h.frames; string = h.string ∙ ap (λ t. bytes_of_frames h.front ++ t) none ∙ append-nil (bytes_of_frames h.front) };
         values = w.values;
       }
 
@@ -208,7 +208,7 @@ module _ {table : Table} (law : IsLawful table) (s : List ℕ) (hs : IsBytes s) 
   pub room_so_far : (count : ℕ) (rest : List ℕ) (vs : List AttrValue) → Underway (Gives table) s count rest vs → AllByRecursion Fits vs → length (written_list vs) ≤ pad (length s)
   room_so_far count rest vs w fit =
       let h = w.counted in
-      let t = spelled h.front in
+      let t = bytes_of_frames h.front in
       let wire : Wire (Gives table) t vs = record { frames = h.front; string = record { frames = are_frames rest h.front h.frames; string = refl }; values = w.values } in
       let known : IsBytes t = bytes-front t rest (subst IsBytes h.string hs) in
       let bound = never_longer law.reading law.holding law.writing t (written_list vs) known (record { values = vs; wire = wire; fit = fit; string = refl }) in

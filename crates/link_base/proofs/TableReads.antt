@@ -10,7 +10,7 @@ use Rattle.link_base.specs.declared.wire.fault.DecodeFault.{DecodeFault}
 use Rattle.link_base.specs.declared.wire.fault.DecodeFault.TheVariants as faults
 use Rattle.link_base.specs.declared.wire.fault.DecodeError.{DecodeError}
 use Rattle.link_base.specs.declared.wire.fault.DecodeError.TheVariants as errors
-use Rattle.link_base.specs.Frame.{Frame, BeginsWith, bare, IsComplete, AreFrames, frame_bytes, spelled, frame_fault}
+use Rattle.link_base.specs.Frame.{Frame, BeginsWith, bare, IsComplete, AreFrames, frame_bytes, bytes_of_frames, frame_fault}
 use Rattle.link_base.specs.FrameOffsets.{starts, FramesOrFault, Finds}
 use Rattle.link_base.specs.Wire.{Reading, Wire, FirstFault, FrameGives}
 use Rattle.link_base.specs.Answers.{Fails, ListFails, ListAnswers, ListFaultUnless, OnListMemory, list_error}
@@ -37,13 +37,13 @@ fault_unless table law view s (Err (list_errors.Memory e)) any = tt
 
 -- ---- frames, and the frames before them
 
-spelled-append : (xs ys : List Frame) → spelled (xs ++ ys) ≡ spelled xs ++ spelled ys
-spelled-append xs ys = flat_map-append frame_bytes xs ys
+bytes_of_frames-append : (xs ys : List Frame) → bytes_of_frames (xs ++ ys) ≡ bytes_of_frames xs ++ bytes_of_frames ys
+bytes_of_frames-append xs ys = flat_map-append frame_bytes xs ys
 
 -- the offset of the frame that follows some others
-starts-at : (at : ℕ) (xs : List Frame) (y : Frame) (ys : List Frame) → get_or (starts at (xs ++ y ∷ ys)) (length xs) 0 ≡ at + length (spelled xs)
+starts-at : (at : ℕ) (xs : List Frame) (y : Frame) (ys : List Frame) → get_or (starts at (xs ++ y ∷ ys)) (length xs) 0 ≡ at + length (bytes_of_frames xs)
 starts-at at [] y ys = omega arith
-starts-at at (x ∷ xs) y ys = starts-at (at + length (frame_bytes x)) xs y ys ∙ omega (arith, length-append (frame_bytes x) (spelled xs))
+starts-at at (x ∷ xs) y ys = starts-at (at + length (frame_bytes x)) xs y ys ∙ omega (arith, length-append (frame_bytes x) (bytes_of_frames xs))
 
 -- frames that precede others are complete
 complete_before : (xs : List Frame) (y : Frame) (ys : List Frame) → AreFrames (xs ++ y ∷ ys) → AllByRecursion IsComplete xs
@@ -61,9 +61,9 @@ frames_behind (x ∷ z ∷ xs) y ys h = frames_behind (z ∷ xs) y ys h.1
 pub first_frame : (s offsets : List ℕ) (fault : Option (ℕ × Cause)) → Finds s offsets fault → 0 < length offsets → frame_fault s ≡ None
 first_frame s offsets fault found some = by_frames found.frames (cut_of s found.frames fault found.all) (omega (arith, some, ap length found.places, length-starts 0 found.frames))
   where
-    by_frames : (xs : List Frame) → (rest : List ℕ) × AreFrames xs × (s ≡ spelled xs ++ rest) → 0 < length xs → frame_fault s ≡ None
+    by_frames : (xs : List Frame) → (rest : List ℕ) × AreFrames xs × (s ≡ bytes_of_frames xs ++ rest) → 0 < length xs → frame_fault s ≡ None
     by_frames [] h lt = absurd (omega (arith, lt))
-    by_frames (x ∷ xs) (rest, frames, string) lt = ap frame_fault (string ∙ append_assoc (frame_bytes x) (spelled xs) rest) ∙ frame_fault-frame x (spelled xs ++ rest) (AreFrames-head x xs frames)
+    by_frames (x ∷ xs) (rest, frames, string) lt = ap frame_fault (string ∙ append_assoc (frame_bytes x) (bytes_of_frames xs) rest) ∙ frame_fault-frame x (bytes_of_frames xs ++ rest) (AreFrames-head x xs frames)
 
 -- if the allocation for n offsets can fail, n is not 0, and the bytes start with a frame
 pub first_frame-room : (s offsets : List ℕ) (fault : Option (ℕ × Cause)) (n : ℕ) → Finds s offsets fault → n ≡ length offsets → (n ≡ 0 → false ≡ true) → frame_fault s ≡ None
@@ -120,8 +120,8 @@ module _ {V : Type 0} (gives : Reading V) (s offsets : List ℕ) (fault : Option
     values : AllZip (λ x v. FrameGives gives x (Ok v)) before vs
     frames : AreFrames (before ++ frame ∷ after)
     behind : drop (get_or offsets i 0) s ≡ frame_bytes frame ++ rest
-    string : s ≡ spelled before ++ (frame_bytes frame ++ rest)
-    offset : get_or offsets i 0 ≡ length (spelled before)
+    string : s ≡ bytes_of_frames before ++ (frame_bytes frame ++ rest)
+    offset : get_or offsets i 0 ≡ length (bytes_of_frames before)
     kind_field : f ≡ frame.kind_field
     payload : p ≡ frame.payload
 
@@ -129,15 +129,15 @@ module _ {V : Type 0} (gives : Reading V) (s offsets : List ℕ) (fault : Option
   frame_at i vs f p h lt b = by_after h.before h.after h.all h.places h.count h.values (cut_of s (h.before ++ h.after) fault h.all)
     where
       by_after : (before after : List Frame) → FramesOrFault s (before ++ after) fault → offsets ≡ starts 0 (before ++ after) → i ≡ length before → AllZip (λ x v. FrameGives gives x (Ok v)) before vs
-          → (rest : List ℕ) × AreFrames (before ++ after) × (s ≡ spelled (before ++ after) ++ rest) → At i vs f p
+          → (rest : List ℕ) × AreFrames (before ++ after) × (s ≡ bytes_of_frames (before ++ after) ++ rest) → At i vs f p
       by_after before [] all places count values cut = absurd (omega (arith, lt, ap length places, length-starts 0 (before ++ []), length-append before [], count))
       by_after before (x ∷ after) all places count values (rest, frames, string) =
-          let tail = spelled after ++ rest in
-          let whole : s ≡ spelled before ++ (frame_bytes x ++ tail) =
-          string ∙ ap (λ t. t ++ rest) (spelled-append before (x ∷ after)) ∙ append_assoc (spelled before) (frame_bytes x ++ spelled after) rest ∙ ap (λ t. spelled before ++ t) (append_assoc (frame_bytes x) (spelled after) rest) in
-          let offset : get_or offsets i 0 ≡ length (spelled before) = ap (λ o. get_or o i 0) places ∙ ap (λ k. get_or (starts 0 (before ++ x ∷ after)) k 0) count ∙ starts-at 0 before x after ∙ omega arith in
+          let tail = bytes_of_frames after ++ rest in
+          let whole : s ≡ bytes_of_frames before ++ (frame_bytes x ++ tail) =
+          string ∙ ap (λ t. t ++ rest) (bytes_of_frames-append before (x ∷ after)) ∙ append_assoc (bytes_of_frames before) (frame_bytes x ++ bytes_of_frames after) rest ∙ ap (λ t. bytes_of_frames before ++ t) (append_assoc (frame_bytes x) (bytes_of_frames after) rest) in
+          let offset : get_or offsets i 0 ≡ length (bytes_of_frames before) = ap (λ o. get_or o i 0) places ∙ ap (λ k. get_or (starts 0 (before ++ x ∷ after)) k 0) count ∙ starts-at 0 before x after ∙ omega arith in
           let behind : drop (get_or offsets i 0) s ≡ frame_bytes x ++ tail =
-          ap (λ k. drop k s) offset ∙ ap (drop (length (spelled before))) whole ∙ drop-append_seam (spelled before) (frame_bytes x ++ tail) in
+          ap (λ k. drop k s) offset ∙ ap (drop (length (bytes_of_frames before))) whole ∙ drop-append_seam (bytes_of_frames before) (frame_bytes x ++ tail) in
           let same = SameFront-frames (bare f p) x b.rest tail b.is (AreFrames-head x after (frames_behind before x after frames)) (sym b.string ∙ behind) in
           record {
             before = before;

@@ -4,7 +4,7 @@ use Rattle.std.proofs.lemmas.List.{append-nil, length-append, reverse-append}
 use Rattle.std.proofs.lemmas.Bool.{eqb-true, eq-eqb}
 use Rattle.link_base.specs.declared.wire.fault.Cause.{Cause}
 use Rattle.link_base.specs.declared.wire.buffer.NlaBuffer.{NlaBuffer}
-use Rattle.link_base.specs.Frame.{Frame, Frames, IsFrame, IsComplete, AreFrames, kind_of, frame_bytes, spelled, frame_fault}
+use Rattle.link_base.specs.Frame.{Frame, Frames, IsFrame, IsComplete, AreFrames, kind_of, frame_bytes, bytes_of_frames, frame_fault}
 use Rattle.link_base.specs.Wire.{Reading, Wire}
 use Rattle.link_base.specs.Table.{Table, Gives}
 use Rattle.link_base.specs.Buffer.{kind_field_of, payload_of, SplitsFirst}
@@ -25,24 +25,24 @@ pub record FirstFrame (f : ℕ) (p next : List ℕ) (xs : List Frame) : Type 0 w
   pub frames : Frames next others
 
 -- nothing follows a frame whose padding is truncated
-nothing_after : (x y : Frame) (xs : List Frame) → AreFrames (x ∷ xs) → IsFrame y → frame_bytes x ++ spelled xs ≡ frame_bytes y ++ [] → Frames [] xs
+nothing_after : (x y : Frame) (xs : List Frame) → AreFrames (x ∷ xs) → IsFrame y → frame_bytes x ++ bytes_of_frames xs ≡ frame_bytes y ++ [] → Frames [] xs
 nothing_after x y [] hx hy e = record { frames = tt; string = refl }
 nothing_after x y (x2 ∷ xs) hx hy e =
-    let same = SameFront-frames x y (spelled (x2 ∷ xs)) [] (AreFrames-head x (x2 ∷ xs) hx) hy e in
+    let same = SameFront-frames x y (bytes_of_frames (x2 ∷ xs)) [] (AreFrames-head x (x2 ∷ xs) hx) hy e in
     let g = same_gap x y same.payload in
     absurd (omega (
       arith,
       ap length same.rest,
-      length-append x.padding (spelled (x2 ∷ xs)),
+      length-append x.padding (bytes_of_frames (x2 ∷ xs)),
       length-append y.padding [],
-      length-append (frame_bytes x2) (spelled xs),
+      length-append (frame_bytes x2) (bytes_of_frames xs),
       length-frame_bytes x2,
       hx.0.padding,
       hy.padding,
     ))
 
 frames_after : (x y : Frame) (xs : List Frame) (next : List ℕ) → AreFrames (x ∷ xs) → IsFrame y → (next ≡ []) ⊎ IsComplete y
-    → frame_bytes x ++ spelled xs ≡ frame_bytes y ++ next → Frames next xs
+    → frame_bytes x ++ bytes_of_frames xs ≡ frame_bytes y ++ next → Frames next xs
 frames_after x y xs next hx hy (inl none) e = subst (λ t. Frames t xs) (sym none) (nothing_after x y xs hx hy (e ∙ ap (λ t. frame_bytes y ++ t) none))
 frames_after x y xs [] hx hy (inr c) e = nothing_after x y xs hx hy e
 frames_after x y xs (b ∷ next) hx hy (inr c) e =
@@ -56,10 +56,10 @@ first_frame s f p next xs split w = by_frames xs w.frames (sym w.string ∙ spli
     y : Frame
     y = record { kind_field = f; payload = p; padding = split.padding }
 
-    by_frames : (xs : List Frame) → AreFrames xs → spelled xs ≡ frame_bytes y ++ next → FirstFrame f p next xs
+    by_frames : (xs : List Frame) → AreFrames xs → bytes_of_frames xs ≡ frame_bytes y ++ next → FirstFrame f p next xs
     by_frames [] hx e = absurd (omega (arith, ap length e, length-append (frame_bytes y) next, length-frame_bytes y))
     by_frames (x ∷ xs) hx e =
-        let same = SameFront-frames x y (spelled xs) next (AreFrames-head x xs hx) split.is e in
+        let same = SameFront-frames x y (bytes_of_frames xs) next (AreFrames-head x xs hx) split.is e in
         record {
           frame = x;
           others = xs;
@@ -100,10 +100,10 @@ module _ (table : Table) where
   pub values_header : (s : List ℕ) → HasValues table s → s ≢ [] → frame_fault s ≡ None
   values_header s h some = by_fault (frame_fault s) refl
     where
-      no_fault : (c : Cause) → frame_fault s ≡ Some c → (xs : List Frame) → AreFrames xs → s ≡ spelled xs → ⊥
+      no_fault : (c : Cause) → frame_fault s ≡ Some c → (xs : List Frame) → AreFrames xs → s ≡ bytes_of_frames xs → ⊥
       no_fault c e [] hx string = some string
       no_fault c e (x ∷ xs) hx string =
-          let none : frame_fault s ≡ None = ap frame_fault string ∙ frame_fault-frame x (spelled xs) (AreFrames-head x xs hx) in
+          let none : frame_fault s ≡ None = ap frame_fault string ∙ frame_fault-frame x (bytes_of_frames xs) (AreFrames-head x xs hx) in
           absurd cc
 
       by_fault : (o : Option Cause) → frame_fault s ≡ o → frame_fault s ≡ None
@@ -132,7 +132,7 @@ none_pair = None
 -- nothing has no frames
 pub frames_none : (xs : List Frame) → Frames [] xs → xs ≡ []
 frames_none [] w = refl
-frames_none (x ∷ xs) w = absurd (omega (arith, ap length w.string, length-append (frame_bytes x) (spelled xs), length-frame_bytes x))
+frames_none (x ∷ xs) w = absurd (omega (arith, ap length w.string, length-append (frame_bytes x) (bytes_of_frames xs), length-frame_bytes x))
 
 -- the frame at the start, and the bytes where the next one is
 pub split_of : (s : List ℕ) (b : NlaBuffer) (t : List ℕ) → SplitsFirst s b t → Splits s (kind_field_of b) (payload_of b) t

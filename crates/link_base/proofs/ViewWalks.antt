@@ -10,7 +10,7 @@ use Rattle.link_base.specs.declared.views.view_all.ViewAll.{ViewAll}
 use Rattle.link_base.specs.declared.wire.fault.ListFault.{ListFault}
 use Rattle.link_base.specs.declared.wire.fault.DecodeFault.{DecodeFault}
 use Rattle.link_base.specs.declared.wire.fault.Cause.{Cause}
-use Rattle.link_base.specs.Frame.{Frame, Frames, IsFrame, IsComplete, frame_bytes, spelled, frame_fault}
+use Rattle.link_base.specs.Frame.{Frame, Frames, IsFrame, IsComplete, frame_bytes, bytes_of_frames, frame_fault}
 use Rattle.link_base.specs.Wire.{Wire, FaultsHere, FrameGives, Reads, IsCanonicalFrame}
 use Rattle.link_base.specs.Number.{IsBytes}
 use Rattle.link_base.specs.Table.{Table, AttrValue, Gives, Decodes, Allows, FirstNotCanonical}
@@ -89,21 +89,21 @@ module _ {S : Type 0} {g : sets.Ghosts S} (table : Table) where
 -- ---- where the first attribute is that is not canonical
 
 -- complete frames, then more bytes: in a list of frames, another frame starts after them
-starts_after : (xs front : List Frame) (s rest : List ℕ) → Frames s xs → AllByRecursion IsComplete front → 0 < length rest → s ≡ spelled front ++ rest → StartsAt xs (length (spelled front))
-starts_after [] front s rest w complete some e = absurd (omega (arith, ap length (sym w.string ∙ e), length-append (spelled front) rest))
+starts_after : (xs front : List Frame) (s rest : List ℕ) → Frames s xs → AllByRecursion IsComplete front → 0 < length rest → s ≡ bytes_of_frames front ++ rest → StartsAt xs (length (bytes_of_frames front))
+starts_after [] front s rest w complete some e = absurd (omega (arith, ap length (sym w.string ∙ e), length-append (bytes_of_frames front) rest))
 starts_after (x ∷ xs) [] s rest w complete some e = ([], x, xs, refl, refl)
 starts_after (x ∷ xs) (y ∷ front) s rest w complete some e =
-    let t = spelled front ++ rest in
-    let same : frame_bytes x ++ spelled xs ≡ frame_bytes y ++ t = sym w.string ∙ e ∙ append_assoc (frame_bytes y) (spelled front) rest in
-    let next = NextFrames-more x xs y t w.frames complete.0 (omega (arith, some, length-append (spelled front) rest)) same in
+    let t = bytes_of_frames front ++ rest in
+    let same : frame_bytes x ++ bytes_of_frames xs ≡ frame_bytes y ++ t = sym w.string ∙ e ∙ append_assoc (frame_bytes y) (bytes_of_frames front) rest in
+    let next = NextFrames-more x xs y t w.frames complete.0 (omega (arith, some, length-append (bytes_of_frames front) rest)) same in
     let later = starts_after xs front t rest (record { frames = next.frames; string = sym next.rest }) complete.1 some refl in
     let long : length (frame_bytes x) ≡ length (frame_bytes y) =
-    omega (arith, ap length same, ap length next.rest, length-append (frame_bytes x) (spelled xs), length-append (frame_bytes y) t) in (
+    omega (arith, ap length same, ap length next.rest, length-append (frame_bytes x) (bytes_of_frames xs), length-append (frame_bytes y) t) in (
       x ∷ later.0,
       later.1,
       later.2,
       ap (λ zs. x ∷ zs) later.3,
-      omega (arith, long, later.4, length-append (frame_bytes y) (spelled front), length-append (frame_bytes x) (spelled later.0)),
+      omega (arith, long, later.4, length-append (frame_bytes y) (bytes_of_frames front), length-append (frame_bytes x) (bytes_of_frames later.0)),
     )
 
 each_complete : (table : Table) (front : List Frame) → AllByRecursion (IsCanonicalFrame (Allows table)) front → AllByRecursion IsComplete front
@@ -154,7 +154,7 @@ module _ (table : Table) where
 no_header : (s : List ℕ) (c : Cause) → frame_fault s ≡ Some c → s ≢ [] → (xs : List Frame) → Frames s xs → ⊥
 no_header s c e some [] w = some w.string
 no_header s c e some (x ∷ xs) w =
-    let none : frame_fault s ≡ None = ap frame_fault w.string ∙ frame_fault-frame x (spelled xs) (AreFrames-head x xs w.frames) in
+    let none : frame_fault s ≡ None = ap frame_fault w.string ∙ frame_fault-frame x (bytes_of_frames xs) (AreFrames-head x xs w.frames) in
     absurd cc
 
 -- the offset after the first frame
@@ -162,10 +162,10 @@ next_offset : {S : Type 0} (a b : ViewAll S) (x : Frame) (others xs : List Frame
     → length (left_of a) ≤ length (whole_of a)
     → (length (left_of b) ≤ length (whole_of b)) × (length (whole_of b) - length (left_of b) ≡ length (whole_of a) - length (left_of a) + length (frame_bytes x))
 next_offset a b x others xs is w v same within =
-    let long = ap length (w.string ∙ ap spelled is) in
+    let long = ap length (w.string ∙ ap bytes_of_frames is) in
     let rest = ap length v.string in (
-      omega (arith, within, ap length same, long, rest, length-append (frame_bytes x) (spelled others)),
-      omega (arith, within, ap length same, long, rest, length-append (frame_bytes x) (spelled others)),
+      omega (arith, within, ap length same, long, rest, length-append (frame_bytes x) (bytes_of_frames others)),
+      omega (arith, within, ap length same, long, rest, length-append (frame_bytes x) (bytes_of_frames others)),
     )
 
 -- an error at the front takes four bytes, or all that is left
@@ -249,11 +249,11 @@ module _ {S : Type 0} {g : sets.Ghosts S} (table : Table) where
 
   -- the first error among the items is that of the list, at its offset in the whole
   run_first : (a b : ViewAll S) (items : List (Result (Value S g) ListFault)) → Yields Step a items b → left_of b ≡ [] → g.rows (all_set_of a) ≡ table → length (left_of a) ≤ length (whole_of a)
-      → (front : List Frame) (rest : List ℕ) (fault : DecodeFault) → left_of a ≡ spelled front ++ rest → AllByRecursion IsComplete front
+      → (front : List Frame) (rest : List ℕ) (fault : DecodeFault) → left_of a ≡ bytes_of_frames front ++ rest → AllByRecursion IsComplete front
       → AllByRecursion (λ x. (v : AttrValue) × FrameGives (Gives table) x (Ok v)) front → 0 < length rest → FaultsHere (Gives table) rest fault
-      → first_error items ≡ Some (length (whole_of a) - length (left_of a) + length (spelled front), fault)
+      → first_error items ≡ Some (length (whole_of a) - length (left_of a) + length (bytes_of_frames front), fault)
   run_first a b [] h end e within front rest fault string complete values some here =
-      absurd (omega (arith, ap length (sym (ap left_of h ∙ end) ∙ string), length-append (spelled front) rest))
+      absurd (omega (arith, ap length (sym (ap left_of h ∙ end) ∙ string), length-append (bytes_of_frames front) rest))
   run_first a b (Ok x ∷ items) h end e within [] rest fault string complete values some here =
       let at = buffer_in x in
       let s = left_of a in
@@ -267,13 +267,13 @@ module _ {S : Type 0} {g : sets.Ghosts S} (table : Table) where
       let s = left_of a in
       let split = split_of s at (left_of j) h.1.0 in
       let z : Frame = record { kind_field = kind_field_of at; payload = payload_of at; padding = split.padding } in
-      let tail = spelled ys ++ rest in
-      let whole : s ≡ frame_bytes y ++ tail = string ∙ append_assoc (frame_bytes y) (spelled ys) rest in
-      let next = after_front y z tail (left_of j) complete.0 split.is split.last (omega (arith, some, length-append (spelled ys) rest)) (sym whole ∙ split.string) in
+      let tail = bytes_of_frames ys ++ rest in
+      let whole : s ≡ frame_bytes y ++ tail = string ∙ append_assoc (frame_bytes y) (bytes_of_frames ys) rest in
+      let next = after_front y z tail (left_of j) complete.0 split.is split.last (omega (arith, some, length-append (bytes_of_frames ys) rest)) (sym whole ∙ split.string) in
       let less : length (left_of j) ≤ length (whole_of j) = omega (arith, within, ap length h.1.2, ap length whole, ap length next, length-append (frame_bytes y) tail) in
       let later = run_first j b items h.2 end (ap g.rows h.1.3 ∙ e) less ys rest fault next complete.1 values.1 some here in
-      let offset : length (whole_of j) - length (left_of j) + length (spelled ys) ≡ length (whole_of a) - length s + length (spelled (y ∷ ys)) =
-      omega (arith, within, ap length h.1.2, ap length whole, ap length next, length-append (frame_bytes y) tail, length-append (frame_bytes y) (spelled ys)) in
+      let offset : length (whole_of j) - length (left_of j) + length (bytes_of_frames ys) ≡ length (whole_of a) - length s + length (bytes_of_frames (y ∷ ys)) =
+      omega (arith, within, ap length h.1.2, ap length whole, ap length next, length-append (frame_bytes y) tail, length-append (frame_bytes y) (bytes_of_frames ys)) in
       later ∙ ap (λ n. Some (n, fault)) offset
   run_first a b (Err f ∷ items) h end e within [] rest fault string complete values some here =
       let step = subst (λ t. NextOfAll {g = g} t a (Some (Err f)) h.0) e h.1 in
@@ -282,8 +282,8 @@ module _ {S : Type 0} {g : sets.Ghosts S} (table : Table) where
       ap₂ (λ n c. Some (n, c)) offset same
   run_first a b (Err f ∷ items) h end e within (y ∷ ys) rest fault string complete values some here =
       let step = subst (λ t. NextOfAll {g = g} t a (Some (Err f)) h.0) e h.1 in
-      let tail = spelled ys ++ rest in
-      let whole : left_of a ≡ frame_bytes y ++ tail = string ∙ append_assoc (frame_bytes y) (spelled ys) rest in
+      let tail = bytes_of_frames ys ++ rest in
+      let whole : left_of a ≡ frame_bytes y ++ tail = string ∙ append_assoc (frame_bytes y) (bytes_of_frames ys) rest in
       absurd (no_fault_here (lawful table).reading y tail values.0.0 (left_of a) f.fault (IsFrame-complete y complete.0) values.0.1 (sym whole) (faults_here table (left_of a) f.fault (left_of h.0) step.2))
 
 -- the items of a whole walk, for the list that was viewed

@@ -3,7 +3,7 @@ use Rattle.std.proofs.Common.{◌≡◌, ◌↔◌, ℕ, ◌<◌, ◌≤◌, Lis
 use Rattle.std.specs.List.{AllByRecursion}
 use Rattle.std.proofs.lemmas.List.{length-replicate}
 use Rattle.link_base.specs.Number.{IsBytes}
-use Rattle.link_base.specs.Frame.{Frame, Frames, IsComplete, AreFrames, frame_bytes, spelled, gap}
+use Rattle.link_base.specs.Frame.{Frame, Frames, IsComplete, AreFrames, frame_bytes, bytes_of_frames, gap}
 use Rattle.link_base.specs.Wire.{Reading, Wire, whole, written_by, FitsBy}
 use Rattle.link_base.specs.Lawful.{IsReading, IsHolding}
 use Rattle.link_base.proofs.FrameBytes.{bytes-append, bytes-back, bytes-payload}
@@ -18,9 +18,9 @@ AreFrames-complete [] h = tt
 AreFrames-complete (x ∷ xs) h = AreFrames-cons x xs h.0 (AreFrames-complete xs h.1)
 
 -- the bytes of two lists of frames, joined
-pub spelled-append : (xs ys : List Frame) → spelled (xs ++ ys) ≡ spelled xs ++ spelled ys
-spelled-append [] ys = refl
-spelled-append (x ∷ xs) ys = ap (λ t. frame_bytes x ++ t) (spelled-append xs ys) ∙ sym (append_assoc (frame_bytes x) (spelled xs) (spelled ys))
+pub bytes_of_frames-append : (xs ys : List Frame) → bytes_of_frames (xs ++ ys) ≡ bytes_of_frames xs ++ bytes_of_frames ys
+bytes_of_frames-append [] ys = refl
+bytes_of_frames-append (x ∷ xs) ys = ap (λ t. frame_bytes x ++ t) (bytes_of_frames-append xs ys) ∙ sym (append_assoc (frame_bytes x) (bytes_of_frames xs) (bytes_of_frames ys))
 
 -- a written frame is complete
 pub IsComplete-whole : (f : ℕ) (p : List ℕ) → f < 65536 → length p ≤ 65531 → IsComplete (whole f p)
@@ -37,12 +37,12 @@ pub record IsKnown (x : Frame) : Type 0 where
   pub bytes : IsBytes x.payload
 
 -- each frame in some bytes is such a frame
-known : (xs : List Frame) → AreFrames xs → IsBytes (spelled xs) → AllByRecursion IsKnown xs
+known : (xs : List Frame) → AreFrames xs → IsBytes (bytes_of_frames xs) → AllByRecursion IsKnown xs
 known [] h k = tt
 known (x ∷ []) h k = (record { kind_field = h.kind_field; payload = h.payload; bytes = bytes-payload x [] k }, tt)
 known (x ∷ y ∷ xs) h k = (
-  record { kind_field = h.0.kind_field; payload = h.0.payload; bytes = bytes-payload x (spelled (y ∷ xs)) k },
-  known (y ∷ xs) h.1 (bytes-back (frame_bytes x) (spelled (y ∷ xs)) k),
+  record { kind_field = h.0.kind_field; payload = h.0.payload; bytes = bytes-payload x (bytes_of_frames (y ∷ xs)) k },
+  known (y ∷ xs) h.1 (bytes-back (frame_bytes x) (bytes_of_frames (y ∷ xs)) k),
 )
 
 -- the frames that bytes are split into are such frames
@@ -69,9 +69,9 @@ module _ {V : Type 0} (field : V → ℕ) (payload : V → List ℕ) where
   frame_for v = whole (field v) (payload v)
 
   -- what is written consists of the bytes of these frames
-  pub spelled-frames : (vs : List V) → spelled (map frame_for vs) ≡ written_by field payload vs
-  spelled-frames [] = refl
-  spelled-frames (v ∷ vs) = ap (λ t. frame_bytes (frame_for v) ++ t) (spelled-frames vs)
+  pub bytes_of_frames-frames : (vs : List V) → bytes_of_frames (map frame_for vs) ≡ written_by field payload vs
+  bytes_of_frames-frames [] = refl
+  bytes_of_frames-frames (v ∷ vs) = ap (λ t. frame_bytes (frame_for v) ++ t) (bytes_of_frames-frames vs)
 
 module _ {V : Type 0} {gives : Reading V} {field : V → ℕ} {payload : V → List ℕ} {canon cut : V → V} {in_range hides_none uncut : V → Type 0}
     (holding : IsHolding gives field payload canon cut in_range hides_none uncut) where
@@ -102,7 +102,7 @@ module _ {V : Type 0} {gives : Reading V} {field : V → ℕ} {payload : V → L
       let xs = map (frame_for field payload) vs in
       record {
         frames = xs;
-        string = record { frames = AreFrames-complete xs (complete_frames vs h fit); string = sym (spelled-frames field payload vs) };
+        string = record { frames = AreFrames-complete xs (complete_frames vs h fit); string = sym (bytes_of_frames-frames field payload vs) };
         values = back_each vs h none fit;
       }
 

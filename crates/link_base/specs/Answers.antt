@@ -48,9 +48,9 @@ abbrev pub unkinded : {A : Type 0} → Result A Cause → Result A DecodeFault
 unkinded (Ok a) = Ok a
 unkinded (Err c) = Err (faults.Payload c)
 
--- the result of parsing one payload is `told`, unless it is `Memory`
+-- the result of parsing one payload is `stated`, unless it is `Memory`
 abbrev pub PayloadAnswers : {X A : Type 0} → (X → A) → Result X DecodeError → Result A Cause → Type 0
-PayloadAnswers view result told = Answers view result (λ r. r ≡ unkinded told)
+PayloadAnswers view result stated = Answers view result (λ r. r ≡ unkinded stated)
 
 -- if the call failed with `Memory`, then P holds
 abbrev pub OnMemory : {X : Type 0} → Result X DecodeError → Type 0 → Type 0

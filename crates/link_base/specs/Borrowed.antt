@@ -23,9 +23,9 @@ use Rattle.link_base.specs.Buffer.{kind_field_of, payload_of}
 use Rattle.link_base.specs.Table.{Shape, One, Nested, Addresses, Table, AttrValue, class_at, form_at, Gives, Decodes}
 
 -- a value, as it is borrowed: whether a number has a name is left out
-abbrev pub told : Value → Value
-told (Unlisted n listed d) = Name n d
-told v = v
+abbrev pub as_named : Value → Value
+as_named (Unlisted n listed d) = Name n d
+as_named v = v
 
 -- the value of a number x of n bytes, in this order and with this role, without what names it
 abbrev pub number_value : Order → Role → ℕ → ℕ → Value
@@ -38,7 +38,7 @@ abbrev pub Says : Borrowed → Value → Type 0
 Says borrowed.Nothing v = v ≡ Nothing
 Says (borrowed.Bool b) v = v ≡ Boolean b
 Says (borrowed.FlagOrBool flag) v = v ≡ flag_value flag
-Says (borrowed.Number x w order role) v = (told v ≡ number_value order role (bytes_in w) x) × (x < bound (bytes_in w))
+Says (borrowed.Number x w order role) v = (as_named v ≡ number_value order role (bytes_in w) x) × (x < bound (bytes_in w))
 Says (borrowed.Signed z) v = v ≡ Integer z
 Says (borrowed.LowFlags b) v = v ≡ LowByte b
 Says (borrowed.MaskedFlags flags mask) v = v ≡ Raw (octets_of 4 (flags ∷ mask ∷ []))

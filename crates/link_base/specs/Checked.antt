@@ -3,7 +3,7 @@ use Rattle.std.specs.Prelude.{◌≡◌, ◌⊎◌, ℕ, List, [], ◌++◌, len
 use Rattle.std.specs.List.{AllZip, AllByRecursion}
 use Rattle.link_base.specs.declared.wire.fault.DecodeFault.{DecodeFault}
 use Rattle.link_base.specs.declared.wire.fault.ListFault.{ListFault}
-use Rattle.link_base.specs.Frame.{Frame, IsComplete, AreFrames, spelled}
+use Rattle.link_base.specs.Frame.{Frame, IsComplete, AreFrames, bytes_of_frames}
 use Rattle.link_base.specs.Wire.{Reading, Wire, FirstFault, FrameGives}
 
 -- `given` holds for some value, or for the error
@@ -19,7 +19,7 @@ ListChecks gives s (Err e) = FirstFault gives s e.at e.fault
 -- s starts with frames that decode to these values, and `rest` follows; if it is not empty, all of them are complete
 pub record Begins {V : Type 0} (gives : Reading V) (s : List ℕ) (vs : List V) (rest : List ℕ) : Type 0 where
   pub frames : List Frame
-  pub string : s ≡ spelled frames ++ rest
+  pub string : s ≡ bytes_of_frames frames ++ rest
   pub all : ((rest ≡ []) × AreFrames frames) ⊎ AllByRecursion IsComplete frames
   pub values : AllZip (λ x v. FrameGives gives x (Ok v)) frames vs
 
@@ -28,5 +28,5 @@ abbrev pub Passes : {V : Type 0} → Reading V → List ℕ → ℕ → List ℕ
 Passes {V} gives s n rest = (vs : List V) × Begins gives s vs rest × (n ≡ length vs)
 
 -- every attribute with this `nla_type` and a payload of n bytes decodes
-abbrev pub Settles : {V : Type 0} → Reading V → ℕ → ℕ → Type 0
-Settles {V} gives f n = (p : List ℕ) → length p ≡ n → (v : V) × gives f p (Ok v)
+abbrev pub AllDecode : {V : Type 0} → Reading V → ℕ → ℕ → Type 0
+AllDecode {V} gives f n = (p : List ℕ) → length p ≡ n → (v : V) × gives f p (Ok v)

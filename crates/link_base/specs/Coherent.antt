@@ -59,8 +59,8 @@ same_flag a b = if a then b else not b
 -- the shape is that of the form; in nested lists there are no lists and no arrays
 abbrev pub is_shape_of : Form → List (ℕ × List ℕ) → Shape → Bool
 is_shape_of form names (One c) = is_class_of form names c
-is_shape_of (forms.List told) names (Nested flagged rows) = same_flag told flagged && list_all (λ (r : Row Class). is_leaf_of r.form r.names r.class) rows
-is_shape_of (forms.Addresses told) names (Addresses n) = told == n
+is_shape_of (forms.List stated) names (Nested flagged rows) = same_flag stated flagged && list_all (λ (r : Row Class). is_leaf_of r.form r.names r.class) rows
+is_shape_of (forms.Addresses stated) names (Addresses n) = stated == n
 is_shape_of form names shape = false
 
 -- ---- what the test says
@@ -73,6 +73,6 @@ IsLeafOf form names c = (is_array form ≡ false) × IsClassOf form names c
 
 abbrev pub IsShapeOf : Form → List (ℕ × List ℕ) → Shape → Type 0
 IsShapeOf form names (One c) = IsClassOf form names c
-IsShapeOf (forms.List told) names (Nested flagged rows) = (told ≡ flagged) × AllByRecursion (λ (r : Row Class). IsLeafOf r.form r.names r.class) rows
-IsShapeOf (forms.Addresses told) names (Addresses n) = told ≡ n
+IsShapeOf (forms.List stated) names (Nested flagged rows) = (stated ≡ flagged) × AllByRecursion (λ (r : Row Class). IsLeafOf r.form r.names r.class) rows
+IsShapeOf (forms.Addresses stated) names (Addresses n) = stated ≡ n
 IsShapeOf form names shape = ⊥

@@ -2,7 +2,7 @@
 use Rattle.std.specs.Prelude.{◌≡◌, ◌↔◌, ℕ, not, false, List, ◌++◌, map, Result}
 use Rattle.std.specs.List.{filter, AllByRecursion}
 use Rattle.link_base.specs.declared.wire.fault.DecodeFault.{DecodeFault}
-use Rattle.link_base.specs.Frame.{Frame, IsComplete, BeginsWith, kind_of, spelled}
+use Rattle.link_base.specs.Frame.{Frame, IsComplete, BeginsWith, kind_of, bytes_of_frames}
 use Rattle.link_base.specs.Class.{is_listed}
 use Rattle.link_base.specs.Wire.{Reads}
 use Rattle.link_base.specs.Table.{Row, Table, AttrValue, Gives, Canonical}
@@ -24,7 +24,7 @@ kinds_of rows = map (λ r. r.kind) rows
 pub record StandsIn (s : List ℕ) (x : Frame) : Type 0 where
   pub front : List Frame
   pub rest : List ℕ
-  pub string : s ≡ spelled front ++ rest
+  pub string : s ≡ bytes_of_frames front ++ rest
   pub complete : AllByRecursion IsComplete front
   pub begins : BeginsWith rest x
 

@@ -36,8 +36,8 @@ abbrev pub frame_bytes : Frame → List ℕ
 frame_bytes x = bytes_of 2 (4 + length x.payload) ++ (bytes_of 2 x.kind_field ++ (x.payload ++ x.padding))
 
 -- the bytes of consecutive frames
-abbrev pub spelled : List Frame → List ℕ
-spelled xs = flat_map frame_bytes xs
+abbrev pub bytes_of_frames : List Frame → List ℕ
+bytes_of_frames xs = flat_map frame_bytes xs
 
 -- the header's numbers are in range, and the padding is at most complete
 pub record IsFrame (x : Frame) : Type 0 where
@@ -60,7 +60,7 @@ AreFrames (x ∷ y ∷ xs) = IsComplete x × AreFrames (y ∷ xs)
 -- s consists of these consecutive frames
 pub record Frames (s : List ℕ) (xs : List Frame) : Type 0 where
   pub frames : AreFrames xs
-  pub string : s ≡ spelled xs
+  pub string : s ≡ bytes_of_frames xs
 
 -- why r does not start with a frame; `None` if it does
 abbrev pub frame_fault : List ℕ → Option Cause

@@ -7,7 +7,7 @@ use Rattle.link_base.specs.declared.wire.fault.DecodeError.{DecodeError}
 use Rattle.link_base.specs.declared.wire.fault.DecodeError.TheVariants as errors
 use Rattle.link_base.specs.declared.wire.fault.DecodeFault.TheVariants as faults
 use Rattle.link_base.specs.declared.wire.fault.Cause.{Cause}
-use Rattle.link_base.specs.Frame.{Frame, Frames, IsComplete, spelled, frame_fault}
+use Rattle.link_base.specs.Frame.{Frame, Frames, IsComplete, bytes_of_frames, frame_fault}
 use Rattle.link_base.specs.Buffer.{kind_field_of, payload_of, IsFrameFault, SplitsFirst}
 
 -- the bytes that the iterator has not yet passed
@@ -49,5 +49,5 @@ item_of x = Ok (x.kind_field, x.payload)
 abbrev pub AreItems : List ℕ → List (Result NlaBuffer DecodeError) → Type 0
 AreItems s items =
     ((xs : List Frame) × Frames s xs × (map seen items ≡ map item_of xs))
-    ⊎ ((xs : List Frame) × (rest : List ℕ) × (c : Cause) × AllByRecursion IsComplete xs × (s ≡ spelled xs ++ rest) × (0 < length rest) × (frame_fault rest ≡ Some c)
+    ⊎ ((xs : List Frame) × (rest : List ℕ) × (c : Cause) × AllByRecursion IsComplete xs × (s ≡ bytes_of_frames xs ++ rest) × (0 < length rest) × (frame_fault rest ≡ Some c)
     × (map seen items ≡ map item_of xs ++ Err (errors.Fault (faults.Frame c)) ∷ []))

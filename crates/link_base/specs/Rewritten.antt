@@ -4,7 +4,7 @@ use Rattle.std.specs.List.{AllByRecursion}
 use Rattle.link_base.specs.declared.wire.fault.DecodeError.{DecodeError}
 use Rattle.link_base.specs.declared.wire.fault.RewriteError.{RewriteError}
 use Rattle.link_base.specs.declared.wire.fault.RewriteError.TheVariants as errors
-use Rattle.link_base.specs.Frame.{Frame, IsComplete, BeginsWith, spelled, max_payload}
+use Rattle.link_base.specs.Frame.{Frame, IsComplete, BeginsWith, bytes_of_frames, max_payload}
 use Rattle.link_base.specs.Wire.{Wire, FirstFault, FrameGives}
 use Rattle.link_base.specs.Table.{Table, AttrValue, Gives, Rewriting, TakesMemory, Fits, written_payload, written_frame}
 use Rattle.link_base.specs.Answers.{Fails, OverwritesFront, IsFirstUnfit}
@@ -38,7 +38,7 @@ AnswersBy table s P (Err (errors.Memory e)) = Unit {0}
 pub record NeedsMemory (table : Table) (s : List ℕ) : Type 0 where
   pub front : List Frame
   pub rest : List ℕ
-  pub string : s ≡ spelled front ++ rest
+  pub string : s ≡ bytes_of_frames front ++ rest
   pub complete : AllByRecursion IsComplete front
   pub values : AllByRecursion (λ x. (v : AttrValue) × FrameGives (Gives table) x (Ok v)) front
   pub frame : Frame

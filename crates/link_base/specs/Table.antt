@@ -9,7 +9,7 @@ use Rattle.link_base.specs.declared.rows.label.Quantity.{Quantity}
 use Rattle.link_base.specs.declared.rows.label.Quantity.TheVariants as quantities
 use Rattle.link_base.specs.declared.rows.form.Form.{Form}
 use Rattle.link_base.specs.declared.rows.form.Form.TheVariants as forms
-use Rattle.link_base.specs.Frame.{Frame, IsComplete, kind_of, kind_limit, frame_bytes, spelled}
+use Rattle.link_base.specs.Frame.{Frame, IsComplete, kind_of, kind_limit, frame_bytes, bytes_of_frames}
 use Rattle.link_base.specs.Class
 use Rattle.link_base.specs.Class.{Class, Value, class_value, written, IsCanonicalPayload}
 use Rattle.link_base.specs.Fields.{FieldRow}
@@ -226,7 +226,7 @@ content_flag content = 0
 abbrev pub content_payload : Content → List ℕ
 content_payload (Single v) = written v
 content_payload (Inner flagged vs) = written_leaves vs
-content_payload (Listed octets) = spelled (addresses_from 0 octets)
+content_payload (Listed octets) = bytes_of_frames (addresses_from 0 octets)
 
 -- the written `nla_type`
 abbrev pub written_kind : AttrValue → ℕ
@@ -299,7 +299,7 @@ pub record AreAddresses (n : ℕ) (p : List ℕ) : Type 0 where
   pub addresses : List (List ℕ)
   pub each : AllByRecursion (λ a. length a ≡ n) addresses
   pub complete : AllByRecursion IsComplete (addresses_from 0 addresses)
-  pub string : p ≡ spelled (addresses_from 0 addresses)
+  pub string : p ≡ bytes_of_frames (addresses_from 0 addresses)
 
 -- the payload of an attribute of this shape is canonical
 abbrev pub IsCanonicalContent : Shape → List ℕ → Type 0

@@ -19,7 +19,7 @@ use Rattle.link_base.specs.Orders.{number_by}
 use Rattle.link_base.specs.Class.{Extent, Exactly, accepted, value_only}
 use Rattle.link_base.specs.Wire.{Wire, FirstFault}
 use Rattle.link_base.specs.Table.{Table, AttrValue, Shape, Nested, Gives, Decodes}
-use Rattle.link_base.specs.Frame.{Frame, Frames, frame_bytes, spelled, kind_of, frame_fault}
+use Rattle.link_base.specs.Frame.{Frame, Frames, frame_bytes, bytes_of_frames, kind_of, frame_fault}
 use Rattle.link_base.specs.Buffer.{kind_field_of, payload_of, SplitsFirst}
 use Rattle.link_base.specs.Borrowed.{HasValues}
 use Rattle.link_base.specs.IteratorItems.{IsCount}
@@ -118,7 +118,7 @@ pub record IsWalk {S : Type 0} {g : sets.Ghosts S} (table : Table) (set : S) (s 
 
 -- one of these frames starts at this offset
 abbrev pub StartsAt : List Frame → ℕ → Type 0
-StartsAt xs at = (front : List Frame) × (x : Frame) × (back : List Frame) × (xs ≡ front ++ x ∷ back) × (at ≡ length (spelled front))
+StartsAt xs at = (front : List Frame) × (x : Frame) × (back : List Frame) × (xs ≡ front ++ x ∷ back) × (at ≡ length (bytes_of_frames front))
 
 -- ---- every attribute of a list, with its value or its error
 

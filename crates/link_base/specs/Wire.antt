@@ -4,7 +4,7 @@ use Rattle.std.specs.List.{flat_map, AllZip, AllByRecursion}
 use Rattle.link_base.specs.declared.wire.fault.Cause.{Cause}
 use Rattle.link_base.specs.declared.wire.fault.DecodeFault.{DecodeFault}
 use Rattle.link_base.specs.declared.wire.fault.DecodeFault.TheVariants as faults
-use Rattle.link_base.specs.Frame.{Frame, Frames, IsComplete, BeginsWith, frame_bytes, spelled, gap, frame_fault, max_payload}
+use Rattle.link_base.specs.Frame.{Frame, Frames, IsComplete, BeginsWith, frame_bytes, bytes_of_frames, gap, frame_fault, max_payload}
 
 -- How attributes decode: from `nla_type` and a payload to a value or an error.
 abbrev pub Reading : Type 0 → Type 1
@@ -32,11 +32,11 @@ FaultsHere gives r fault =
 pub record FirstFault {V : Type 0} (gives : Reading V) (s : List ℕ) (at : ℕ) (fault : DecodeFault) : Type 0 where
   pub front : List Frame
   pub rest : List ℕ
-  pub string : s ≡ spelled front ++ rest
+  pub string : s ≡ bytes_of_frames front ++ rest
   pub complete : AllByRecursion IsComplete front
   pub values : AllByRecursion (λ x. (v : V) × FrameGives gives x (Ok v)) front
   pub some : 0 < length rest
-  pub offset : at ≡ length (spelled front)
+  pub offset : at ≡ length (bytes_of_frames front)
   pub here : FaultsHere gives rest fault
 
 -- the result of decoding s: its values, or its first error with the offset
@@ -69,7 +69,7 @@ pub record IsCanonicalFrame (allows : ℕ → List ℕ → Type 0) (x : Frame) :
 -- a list of such frames
 pub record CanonicalBy (allows : ℕ → List ℕ → Type 0) (s : List ℕ) : Type 0 where
   pub frames : List Frame
-  pub string : s ≡ spelled frames
+  pub string : s ≡ bytes_of_frames frames
   pub each : AllByRecursion (IsCanonicalFrame allows) frames
 
 -- s starts with the complete frame of this `nla_type` and payload, padded with zeros, and `rest` follows
@@ -80,10 +80,10 @@ SplitsWhole s f p rest = IsComplete (whole f p) × (s ≡ frame_bytes (whole f p
 pub record FirstOtherBy (allows : ℕ → List ℕ → Type 0) (s : List ℕ) (at : ℕ) : Type 0 where
   pub front : List Frame
   pub rest : List ℕ
-  pub string : s ≡ spelled front ++ rest
+  pub string : s ≡ bytes_of_frames front ++ rest
   pub each : AllByRecursion (IsCanonicalFrame allows) front
   pub some : 0 < length rest
-  pub offset : at ≡ length (spelled front)
+  pub offset : at ≡ length (bytes_of_frames front)
   pub here : (x : Frame) (after : List ℕ) → rest ≡ frame_bytes x ++ after → ¬ (IsCanonicalFrame allows x)
 
 -- ---- rewriting

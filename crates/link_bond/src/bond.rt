@@ -20,11 +20,10 @@ pub use arp_all_targets::BondArpAllTargets;
 pub use arp_validate::BondArpValidate;
 pub use fail_over_mac::BondFailOverMac;
 pub use lacp_rate::BondLacpRate;
-use link_base::rows::by_rows::{self, AttributeRows, RowVisitor};
-use link_base::rows::label::KindLabel;
+use link_base::rows::by_rows::{AttributeRows, RowVisitor};
 use link_base::{
-    AddressList, Attribute, DecodeError, DecodeFault, DefaultNla, Meaning, Named, NestedList, Nla,
-    NlaBuffer, Parseable, Place, TryClone,
+    AddressList, Attribute, DecodeError, DefaultNla, Meaning, Named, NestedList, Nla, NlaBuffer,
+    Parseable, Place, TryClone,
 };
 pub use mode::BondMode;
 pub use primary_reselect::BondPrimaryReselect;
@@ -220,20 +219,6 @@ impl Attribute for InfoBond {
     ghost use Rattle.link_bond.specs.contracts.bond.ad_select.BondAdSelectNamedNumber.TheImpl.Laws as selections;
     ghost use Rattle.link_bond.specs.contracts.bond.ad_info.BondAdInfoAttribute.TheImpl.Laws as infos;
     ghost use Rattle.link_bond.specs.contracts.bond.InfoBond.{enum};
-
-    #[inline(always)]
-    fn check(buffer: &NlaBuffer<'_>) -> Result<(), DecodeFault> {
-        by_rows::check::<Self>(buffer)
-    }
-
-    #[inline(always)]
-    fn label(list: Option<u16>, kind: u16) -> Option<KindLabel> {
-        by_rows::label::<Self>(list, kind)
-    }
-
-    fn canonical(buffer: &NlaBuffer<'_>) -> bool {
-        by_rows::canonical::<Self>(buffer)
-    }
 
     ghost lawful = { lawful bond_table };
 

@@ -9,11 +9,10 @@ mod port_state;
 
 pub use churn_state::ChurnState;
 pub use lacp_state::LacpState;
-use link_base::rows::by_rows::{self, AttributeRows, RowVisitor};
-use link_base::rows::label::KindLabel;
+use link_base::rows::by_rows::{AttributeRows, RowVisitor};
 use link_base::{
-    Attribute, DecodeError, DecodeFault, DefaultNla, FlagBits, LowFlagBits, Meaning, Named, Nla,
-    NlaBuffer, Parseable, Place, TryClone,
+    Attribute, DecodeError, DefaultNla, FlagBits, LowFlagBits, Meaning, Named, Nla, NlaBuffer,
+    Parseable, Place, TryClone,
 };
 pub use mii_status::MiiStatus;
 pub use port_state::BondPortState;
@@ -128,20 +127,6 @@ impl Attribute for InfoBondPort {
     ghost use Rattle.link_bond.specs.contracts.bond_port.churn_state.ChurnStateNamedNumber.TheImpl.Laws as churn_states;
     ghost use Rattle.link_bond.specs.contracts.bond_port.lacp_state.LacpStateFlagSet.TheImpl.Laws as flags;
     ghost use Rattle.link_bond.specs.contracts.bond_port.InfoBondPort.{enum};
-
-    #[inline(always)]
-    fn check(buffer: &NlaBuffer<'_>) -> Result<(), DecodeFault> {
-        by_rows::check::<Self>(buffer)
-    }
-
-    #[inline(always)]
-    fn label(list: Option<u16>, kind: u16) -> Option<KindLabel> {
-        by_rows::label::<Self>(list, kind)
-    }
-
-    fn canonical(buffer: &NlaBuffer<'_>) -> bool {
-        by_rows::canonical::<Self>(buffer)
-    }
 
     ghost lawful = { lawful bond_port_table };
 

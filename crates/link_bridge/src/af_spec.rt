@@ -13,11 +13,10 @@ mod vlan_info;
 mod vlan_info_flags;
 
 pub use flag::BridgeFlag;
-use link_base::rows::by_rows::{self, AttributeRows, RowVisitor};
-use link_base::rows::label::KindLabel;
+use link_base::rows::by_rows::{AttributeRows, RowVisitor};
 use link_base::{
-    Attribute, DecodeError, DecodeFault, DefaultNla, ListError, Meaning, Named, NestedList, Nla,
-    NlaBuffer, Parseable, Place, Struct, TryClone, read_list,
+    Attribute, DecodeError, DefaultNla, ListError, Meaning, Named, NestedList, Nla, NlaBuffer,
+    Parseable, Place, Struct, TryClone, read_list,
 };
 pub use mode::BridgeMode;
 use std::alloc::{AllocError, Global};
@@ -127,20 +126,6 @@ impl Attribute for AfSpecBridge {
     ghost use Rattle.link_bridge.specs.contracts.af_spec.mode.BridgeModeNamedNumber.TheImpl.Laws as modes;
     ghost use Rattle.link_bridge.specs.contracts.af_spec.tunnel.BridgeVlanTunnelInfoAttribute.TheImpl.Laws as tunnels;
     ghost use Rattle.link_bridge.specs.contracts.af_spec.AfSpecBridge.{enum};
-
-    #[inline(always)]
-    fn check(buffer: &NlaBuffer<'_>) -> Result<(), DecodeFault> {
-        by_rows::check::<Self>(buffer)
-    }
-
-    #[inline(always)]
-    fn label(list: Option<u16>, kind: u16) -> Option<KindLabel> {
-        by_rows::label::<Self>(list, kind)
-    }
-
-    fn canonical(buffer: &NlaBuffer<'_>) -> bool {
-        by_rows::canonical::<Self>(buffer)
-    }
 
     ghost lawful = { lawful af_spec_bridge_table };
 

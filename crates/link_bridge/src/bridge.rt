@@ -8,11 +8,10 @@ mod stp_state;
 
 use crate::bridge_boolopt::BridgeBooleanOptions;
 pub use id::{BridgeId, BridgeIdBuffer};
-use link_base::rows::by_rows::{self, AttributeRows, RowVisitor};
-use link_base::rows::label::KindLabel;
+use link_base::rows::by_rows::{AttributeRows, RowVisitor};
 use link_base::{
-    Attribute, DecodeError, DecodeFault, DefaultNla, Meaning, Named, NestedList, Nla, NlaBuffer,
-    Parseable, Place, Struct, TryClone, VlanProtocol,
+    Attribute, DecodeError, DefaultNla, Meaning, Named, NestedList, Nla, NlaBuffer, Parseable,
+    Place, Struct, TryClone, VlanProtocol,
 };
 pub use querier::BridgeQuerierState;
 pub use router_type::BridgeMulticastRouterType;
@@ -262,20 +261,6 @@ impl Attribute for InfoBridge {
     ghost use Rattle.link_bridge.specs.contracts.bridge.router_type.BridgeMulticastRouterTypeNamedNumber.TheImpl.Laws as routers;
     ghost use Rattle.link_bridge.specs.contracts.bridge.querier.BridgeQuerierStateAttribute.TheImpl.Laws as queriers;
     ghost use Rattle.link_bridge.specs.contracts.bridge.InfoBridge.{enum};
-
-    #[inline(always)]
-    fn check(buffer: &NlaBuffer<'_>) -> Result<(), DecodeFault> {
-        by_rows::check::<Self>(buffer)
-    }
-
-    #[inline(always)]
-    fn label(list: Option<u16>, kind: u16) -> Option<KindLabel> {
-        by_rows::label::<Self>(list, kind)
-    }
-
-    fn canonical(buffer: &NlaBuffer<'_>) -> bool {
-        by_rows::canonical::<Self>(buffer)
-    }
 
     ghost lawful = { lawful bridge_table };
 

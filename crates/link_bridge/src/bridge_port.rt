@@ -3,11 +3,10 @@
 mod state;
 
 use crate::bridge::{BridgeId, BridgeMulticastRouterType};
-use link_base::rows::by_rows::{self, AttributeRows, RowVisitor};
-use link_base::rows::label::KindLabel;
+use link_base::rows::by_rows::{AttributeRows, RowVisitor};
 use link_base::{
-    Attribute, DecodeError, DecodeFault, DefaultNla, Meaning, Named, Nla, NlaBuffer, Parseable,
-    Place, Struct, TryClone,
+    Attribute, DecodeError, DefaultNla, Meaning, Named, Nla, NlaBuffer, Parseable, Place, Struct,
+    TryClone,
 };
 pub use state::BridgePortState;
 use std::alloc::{AllocError, Global};
@@ -239,20 +238,6 @@ impl Attribute for InfoBridgePort {
     ghost use Rattle.link_bridge.specs.contracts.bridge_port.state.BridgePortStateNamedNumber.TheImpl.Laws as states;
     ghost use Rattle.link_bridge.specs.contracts.bridge.router_type.BridgeMulticastRouterTypeNamedNumber.TheImpl.Laws as routers;
     ghost use Rattle.link_bridge.specs.contracts.bridge_port.InfoBridgePort.{enum};
-
-    #[inline(always)]
-    fn check(buffer: &NlaBuffer<'_>) -> Result<(), DecodeFault> {
-        by_rows::check::<Self>(buffer)
-    }
-
-    #[inline(always)]
-    fn label(list: Option<u16>, kind: u16) -> Option<KindLabel> {
-        by_rows::label::<Self>(list, kind)
-    }
-
-    fn canonical(buffer: &NlaBuffer<'_>) -> bool {
-        by_rows::canonical::<Self>(buffer)
-    }
 
     ghost lawful = { lawful bridge_port_table };
 

@@ -6,11 +6,10 @@ ghost use Rattle.link_base.specs.Table.{Gives, Decodes};
 ghost use Rattle.link_base.specs.Answers.{ListAnswers, ListFaultUnless, OnListMemory};
 ghost use Rattle.link_bridge.specs.ProtoInfo.{proto_info_table, proto_info_means};
 
-use link_base::rows::by_rows::{self, AttributeRows, RowVisitor};
-use link_base::rows::label::KindLabel;
+use link_base::rows::by_rows::{AttributeRows, RowVisitor};
 use link_base::{
-    Attribute, DecodeError, DecodeFault, DefaultNla, ListError, Meaning, Nla, NlaBuffer, Parseable,
-    Place, TryClone, read_list,
+    Attribute, DecodeError, DefaultNla, ListError, Meaning, Nla, NlaBuffer, Parseable, Place,
+    TryClone, read_list,
 };
 use std::alloc::{AllocError, Global};
 
@@ -103,20 +102,6 @@ impl Attribute for LinkProtoInfoBridge {
     ghost use Rattle.link_base.proofs.TableLaws.{lawful};
     ghost use Rattle.link_base.specs.Equality.{of_cases, thorough_fields};
     ghost use Rattle.link_bridge.specs.contracts.proto_info.LinkProtoInfoBridge.{enum};
-
-    #[inline(always)]
-    fn check(buffer: &NlaBuffer<'_>) -> Result<(), DecodeFault> {
-        by_rows::check::<Self>(buffer)
-    }
-
-    #[inline(always)]
-    fn label(list: Option<u16>, kind: u16) -> Option<KindLabel> {
-        by_rows::label::<Self>(list, kind)
-    }
-
-    fn canonical(buffer: &NlaBuffer<'_>) -> bool {
-        by_rows::canonical::<Self>(buffer)
-    }
 
     ghost lawful = { lawful proto_info_table };
 

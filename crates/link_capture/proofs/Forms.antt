@@ -38,9 +38,9 @@ found s ms = find (λ m. starts_with nat_eq s m.0) ms
 -- ---- tests of the magic numbers
 
 -- a file is known
-abbrev is_told : Result (Option Form) OtherFormat → Bool
-is_told (Ok None) = false
-is_told told = true
+abbrev tells_form : Result (Option Form) OtherFormat → Bool
+tells_form (Ok None) = false
+tells_form known = true
 
 -- none of the first parts of m, each with fewer than n bytes, starts with a magic number
 abbrev are_open : ℕ → List ℕ → Bool
@@ -49,13 +49,13 @@ are_open (suc n) m = is_none (found (take n m) magics) && are_open n m
 
 -- a magic number tells what a file is, and no proper prefix of it does
 abbrev is_closed : Magic → Bool
-is_closed m = is_told (form_of m.0) && are_open (length m.0) m.0
+is_closed m = tells_form (form_of m.0) && are_open (length m.0) m.0
 
 all_closed : list_all is_closed magics ≡ true
 all_closed = refl
 
-is_known : (told : Result (Option Form) OtherFormat) → is_told told ≡ true → told ≢ Ok None
-is_known told h e = true≢false (sym h ∙ ap is_told e)
+is_known : (known : Result (Option Form) OtherFormat) → tells_form known ≡ true → known ≢ Ok None
+is_known known h e = true≢false (sym h ∙ ap tells_form e)
 
 no_option : (o : Option Magic) → is_none o ≡ true → o ≡ None
 no_option None h = refl
@@ -86,9 +86,9 @@ module _ (s : List ℕ) where
       let parts = or_parts (begins m) (begins_one ms) h in
       ap₂ (λ b o. cond b (Some m) o) (same_start m.0 s more (λ lt. subst (λ b. (b && starts_with nat_eq m.0 s) ≡ false) (lt-ltb (length s) (length m.0) lt) parts.0)) (same_found more ms parts.1)
 
-  -- what follows does not change what is told
-  pub told : (more : List ℕ) → begins_magic s ≡ false → form_of (s ++ more) ≡ form_of s
-  told more h = ap (λ o. option_transpose (option_map (λ m. m.1) o)) (same_found more magics h)
+  -- what follows does not change the form that is known
+  pub form_kept : (more : List ℕ) → begins_magic s ≡ false → form_of (s ++ more) ≡ form_of s
+  form_kept more h = ap (λ o. option_transpose (option_map (λ m. m.1) o)) (same_found more magics h)
 
   -- they tell nothing, and with what follows they may
   abbrev IsOpen : Type 0
@@ -96,12 +96,12 @@ module _ (s : List ℕ) where
 
   opened : (m : Magic) → is_closed m ≡ true → begins m ≡ true → IsOpen
   opened m closed h =
-      let tests = and_parts (is_told (form_of m.0)) (are_open (length m.0) m.0) closed in
+      let tests = and_parts (tells_form (form_of m.0)) (are_open (length m.0) m.0) closed in
       let parts = and_parts (nat_lt (length s) (length m.0)) (starts_with nat_eq m.0 s) h in
       let whole : m.0 ≡ s ++ drop (length s) m.0 = (starts_is Decides-eqb m.0 s true (sym parts.1)).0 refl in
       let front : take (length s) m.0 ≡ s = ap (take (length s)) whole ∙ take-append_seam s (drop (length s) m.0) in (
         ap (λ o. option_transpose (option_map (λ m. m.1) o)) (subst (λ l. found l magics ≡ None) front (open_at (length m.0) (length s) m.0 tests.1 (ltb-true (length s) (length m.0) parts.0))),
-        (drop (length s) m.0, is_known (form_of (s ++ drop (length s) m.0)) (subst (λ l. is_told (form_of l) ≡ true) whole tests.0)),
+        (drop (length s) m.0, is_known (form_of (s ++ drop (length s) m.0)) (subst (λ l. tells_form (form_of l) ≡ true) whole tests.0)),
       )
 
   either_opened : (m : Magic) (b rest : Bool) → begins m ≡ b → is_closed m ≡ true → (b || rest) ≡ true → (rest ≡ true → IsOpen) → IsOpen

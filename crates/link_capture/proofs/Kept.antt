@@ -15,7 +15,7 @@ use Rattle.link_capture.specs.Front.{order_of}
 use Rattle.link_capture.specs.Order.{number_at}
 use Rattle.link_capture.specs.Pcap.{form_after, netlink}
 use Rattle.link_capture.specs.Raw.{streamed}
-use Rattle.link_capture.specs.Told.{Told, Nothing, APacket, AMessage, ATime, Captured, State}
+use Rattle.link_capture.specs.Meaning.{UnitMeaning, Nothing, APacket, AMessage, ATime, Captured, State}
 use Rattle.link_capture.specs.Unit.{after_pcap, IsBlockIn, IsTakenAs, Leads}
 
 -- B says what bytes have, P what packets have, and I what interfaces have
@@ -29,14 +29,14 @@ module _ (B : List ℕ → Type 0) (P : Captured → Type 0) (I : Interface → 
         → P (record { time = time; original = number_at order 4 24 u; link_type = interface.link_type; bytes = bytes })
     pub recorded : (time : Time) (order : Order) (u bytes : List ℕ) → B u → B bytes → P (record { time = time; original = number_at order 4 12 u; link_type = netlink; bytes = bytes })
 
-  abbrev pub Tells : Told → Type 0
+  abbrev pub Tells : UnitMeaning → Type 0
   Tells Nothing = Unit {0}
   Tells (APacket p) = P p
   Tells (AMessage bytes) = B bytes
   Tells (ATime time) = Unit {0}
 
-  pub record HasAll (told : Told) : Type 0 where
-    pub all : Tells told
+  pub record HasAll (meaning : UnitMeaning) : Type 0 where
+    pub all : Tells meaning
 
   -- likewise for what a unit means, if it is one, and for the interfaces that are known after it
   abbrev Knows : After → Type 0
@@ -109,7 +109,7 @@ module _ (B : List ℕ → Type 0) (P : Captured → Type 0) (I : Interface → 
     block_has (Some order) is u after h b (Others equal kind e) = subst Gives (sym e) (other_has order is u (number_at order 4 0 u) h b)
 
     -- units
-    either_has : (x : Bool) {s t : Told} → HasAll s → HasAll t → HasAll (if x then s else t)
+    either_has : (x : Bool) {s t : UnitMeaning} → HasAll s → HasAll t → HasAll (if x then s else t)
     either_has true h k = h
     either_has false h k = k
 
@@ -124,14 +124,14 @@ module _ (B : List ℕ → Type 0) (P : Captured → Type 0) (I : Interface → 
     taken_gives forms.Messages is u after h b e = subst Gives (sym e) (record { gives = (streamed_has u b, h) })
 
     -- a unit, and what is known after it
-    pub taken_has : (state next : State) (u : List ℕ) (told : Told) → AllByRecursion I state.interfaces → B u → IsTakenAs state.form state.interfaces u (Ok (told, next))
-        → HasAll told × AllByRecursion I next.interfaces
-    taken_has state next u told h b taken = (taken_gives state.form state.interfaces u (Ok (told, next)) h b taken).gives
+    pub taken_has : (state next : State) (u : List ℕ) (meaning : UnitMeaning) → AllByRecursion I state.interfaces → B u → IsTakenAs state.form state.interfaces u (Ok (meaning, next))
+        → HasAll meaning × AllByRecursion I next.interfaces
+    taken_has state next u meaning h b taken = (taken_gives state.form state.interfaces u (Ok (meaning, next)) h b taken).gives
 
     -- all units of some bytes
-    pub leads_has : (state : State) (at : ℕ) (s : List ℕ) (units : List Told) (last : State) (end : ℕ) (left : List ℕ) → AllByRecursion I state.interfaces → B s → Leads state at s units last end left
+    pub leads_has : (state : State) (at : ℕ) (s : List ℕ) (units : List UnitMeaning) (last : State) (end : ℕ) (left : List ℕ) → AllByRecursion I state.interfaces → B s → Leads state at s units last end left
         → AllByRecursion HasAll units
     leads_has state at s [] last end left h b leads = tt
-    leads_has state at s (told ∷ units) last end left h b (next, (size, unit, leads)) =
-        let here = taken_has state next (take unit.n s) told h (kept.taken unit.n s b) unit.taken in
+    leads_has state at s (meaning ∷ units) last end left h b (next, (size, unit, leads)) =
+        let here = taken_has state next (take unit.n s) meaning h (kept.taken unit.n s b) unit.taken in
         (here.0, leads_has next (at + size) (drop size s) units last end left here.1 (kept.dropped size s b) leads)

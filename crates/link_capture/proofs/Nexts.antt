@@ -9,7 +9,7 @@ use Rattle.link_capture.specs.declared.error.Size.{Size}
 use Rattle.link_capture.specs.declared.front.Front.TheVariants as fronts
 use Rattle.link_capture.specs.Block.{After}
 use Rattle.link_capture.specs.Front.{front_of, head_of, head_size, size_of}
-use Rattle.link_capture.specs.Told.{Told, State}
+use Rattle.link_capture.specs.Meaning.{UnitMeaning, State}
 use Rattle.link_capture.specs.Unit.{IsTaken, IsUnit, IsError, Cut, Start, Whole, Follows}
 use Rattle.link_capture.proofs.Fronts.{sized_bounded, sized_kept, front_kept, has_head, IsDecided}
 
@@ -40,9 +40,9 @@ module _ (state : State) (s : List ℕ) (n padding : ℕ) (front : front_of stat
   some = let b = sized_bounded state.form s n padding front in omega (arith, b.0, head_some (head_of state.form))
 
   -- a whole unit
-  pub whole_unit : (is_last : Bool) (size : ℕ) (told : Told) (next : State) → IsDue is_last (n + padding) s → n ≤ length s → size ≡ min (n + padding) (length s) → IsTaken state (take n s) (Ok (told, next))
-      → (0 < size) × (size ≤ length s) × ((more : List ℕ) → Follows is_last more → IsUnit state (s ++ more) told size next)
-  whole_unit is_last size told next due whole e taken = (
+  pub whole_unit : (is_last : Bool) (size : ℕ) (meaning : UnitMeaning) (next : State) → IsDue is_last (n + padding) s → n ≤ length s → size ≡ min (n + padding) (length s) → IsTaken state (take n s) (Ok (meaning, next))
+      → (0 < size) × (size ≤ length s) × ((more : List ℕ) → Follows is_last more → IsUnit state (s ++ more) meaning size next)
+  whole_unit is_last size meaning next due whole e taken = (
     omega (arith, e, some, whole),
     omega (arith, e),
     λ more follows. record {
@@ -50,7 +50,7 @@ module _ (state : State) (s : List ℕ) (n padding : ℕ) (front : front_of stat
       gap = padding;
       front = sized_kept state.form s more n padding front;
       whole = omega (arith, whole, length-append s more);
-      taken = kept_taken more (Ok (told, next)) whole taken;
+      taken = kept_taken more (Ok (meaning, next)) whole taken;
       all = e ∙ same_size is_last (n + padding) s more due follows;
     },
   )

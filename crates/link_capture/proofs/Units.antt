@@ -4,7 +4,7 @@ use Rattle.link_capture.specs.declared.form.Form.TheVariants as forms
 use Rattle.link_capture.specs.declared.order.Order.{Order}
 use Rattle.link_capture.specs.Block.{After, IsBlock}
 use Rattle.link_capture.specs.Front.{order_of}
-use Rattle.link_capture.specs.Told.{State}
+use Rattle.link_capture.specs.Meaning.{State}
 use Rattle.link_capture.specs.Unit.{IsTaken, IsTakenAs, IsBlockIn}
 
 -- a block in a state that is seen in another way

@@ -13,7 +13,7 @@ use Rattle.link_capture.specs.declared.pcapng.Interface.{Interface}
 use Rattle.link_capture.specs.Block.{After, IsDescribed, Small, TooMany, Read, IsBlock, Unequal, Describes, Others, most_interfaces, options_in, with_clock, last_length, other}
 use Rattle.link_capture.specs.Front.{front_of, head_of, size_of, order_of}
 use Rattle.link_capture.specs.Order.{number_at}
-use Rattle.link_capture.specs.Told.{Told, State}
+use Rattle.link_capture.specs.Meaning.{UnitMeaning, State}
 use Rattle.link_capture.specs.Unit.{IsBlockIn, IsTakenAs, IsTaken, IsUnit, IsError, Short, Cut, Start, Whole}
 use Rattle.link_capture.proofs.Nexts.{some}
 use Rattle.link_capture.proofs.Once.{OnlyOne, only_given}
@@ -79,17 +79,17 @@ one_taken forms.Messages is u = only_given _
 
 -- a unit, with what is known after it and its length; or an error
 abbrev pub Found : Type 0
-Found = Result (Told × (State × ℕ)) InputError
+Found = Result (UnitMeaning × (State × ℕ)) InputError
 
 -- this is at the front of s
 abbrev pub IsFound : State → List ℕ → Found → Type 0
-IsFound state s (Ok (told, (next, size))) = IsUnit state s told size next
+IsFound state s (Ok (meaning, (next, size))) = IsUnit state s meaning size next
 IsFound state s (Err error) = IsError state s error
 
 module _ (state : State) (s : List ℕ) where
   -- what is found, by what a whole unit of n bytes means
   abbrev by_after : ℕ → ℕ → After → Found
-  by_after n gap (Ok (told, next)) = Ok (told, (next, min (n + gap) (length s)))
+  by_after n gap (Ok (meaning, next)) = Ok (meaning, (next, min (n + gap) (length s)))
   by_after n gap (Err error) = Err error
 
   -- a whole unit of n bytes means one thing
@@ -104,7 +104,7 @@ module _ (state : State) (s : List ℕ) where
 
   -- a whole unit, or its error, is at the front
   is_whole : (n gap : ℕ) (after : After) → front_of state.form s ≡ fronts.Sized n gap → n ≤ length s → IsTaken state (take n s) after → IsFound state s (by_after n gap after)
-  is_whole n gap (Ok (told, next)) front whole t = record { n = n; gap = gap; front = front; whole = whole; taken = t; all = refl }
+  is_whole n gap (Ok (meaning, next)) front whole t = record { n = n; gap = gap; front = front; whole = whole; taken = t; all = refl }
   is_whole n gap (Err error) front whole t = Whole n gap front whole t
 
   -- what is found is at the front
@@ -120,7 +120,7 @@ module _ (state : State) (s : List ℕ) where
 
   -- what is at the front is what is found
   only_found : (f : Found) → IsFound state s f → f ≡ found (front_of state.form s)
-  only_found (Ok (told, (next, size))) u = (λ i. Ok (told, (next, u.all i))) ∙ only_whole u.n u.gap (Ok (told, next)) u.whole u.taken ∙ ap found (sym u.front)
+  only_found (Ok (meaning, (next, size))) u = (λ i. Ok (meaning, (next, u.all i))) ∙ only_whole u.n u.gap (Ok (meaning, next)) u.whole u.taken ∙ ap found (sym u.front)
   only_found (Err error) h = elim h [
     | Short front e ↦ ap Err e ∙ ap found (sym front)
     | Cut n gap front short e ↦ ap Err e ∙ sym (cond-true _ _ _ (lt-ltb (length s) n short)) ∙ ap found (sym front)
@@ -133,5 +133,5 @@ module _ (state : State) (s : List ℕ) where
   one_found = record { value = found (front_of state.form s); is = is_found (front_of state.form s) refl; only = only_found }
 
 -- a unit has some bytes, and at most those that are there
-pub unit_bounded : (state : State) (s : List ℕ) (told : Told) (size : ℕ) (next : State) → IsUnit state s told size next → (0 < size) × (size ≤ length s)
-unit_bounded state s told size next u = let n : 0 < u.n = some state s u.n u.gap u.front in (omega (arith, n, u.all, u.whole), omega (arith, u.all))
+pub unit_bounded : (state : State) (s : List ℕ) (meaning : UnitMeaning) (size : ℕ) (next : State) → IsUnit state s meaning size next → (0 < size) × (size ≤ length s)
+unit_bounded state s meaning size next u = let n : 0 < u.n = some state s u.n u.gap u.front in (omega (arith, n, u.all, u.whole), omega (arith, u.all))

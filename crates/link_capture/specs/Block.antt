@@ -12,11 +12,11 @@ use Rattle.link_capture.specs.declared.pcapng.Interface.{Interface}
 use Rattle.link_capture.specs.Form.{section}
 use Rattle.link_capture.specs.Order.{number_at}
 use Rattle.link_capture.specs.Options.{IsClock}
-use Rattle.link_capture.specs.Told.{Told, Nothing, APacket, State, told_of}
+use Rattle.link_capture.specs.Meaning.{UnitMeaning, Nothing, APacket, State, meaning_of}
 
 -- what is known after a block, with what it means; or its error
 abbrev pub After : Type 0
-After = Result (Told × State) InputError
+After = Result (UnitMeaning × State) InputError
 
 -- a block that shows nothing, and leaves the order and the interfaces
 abbrev pub passed : Order → List Interface → After
@@ -24,7 +24,7 @@ passed order is = Ok (Nothing, record { form = Blocks order; interfaces = is })
 
 -- what is known after a block, by what a function returns and the interfaces then
 abbrev pub after_block : Order → List Interface → Result Event InputError → After
-after_block order is (Ok event) = Ok (told_of event, record { form = Blocks order; interfaces = is })
+after_block order is (Ok event) = Ok (meaning_of event, record { form = Blocks order; interfaces = is })
 after_block order is (Err error) = Err error
 
 -- ---- sections

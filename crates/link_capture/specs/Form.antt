@@ -38,12 +38,12 @@ magics =
     (codes "snoop" ++ 0 ∷ 0 ∷ 0 ∷ [], Err Snoop) ∷ []
 
 -- what s tells by the first of these magic numbers with which it starts; no form, if it starts with none
-abbrev pub told_by : List (List ℕ × Result Form OtherFormat) → List ℕ → Result (Option Form) OtherFormat
-told_by magics s = option_transpose (option_map (λ m. m.1) (find (λ m. starts_with nat_eq s m.0) magics))
+abbrev pub form_by : List (List ℕ × Result Form OtherFormat) → List ℕ → Result (Option Form) OtherFormat
+form_by magics s = option_transpose (option_map (λ m. m.1) (find (λ m. starts_with nat_eq s m.0) magics))
 
 -- what a file is: a capture in this form, or in another format; no form, if it starts with no magic number
 abbrev pub form_of : List ℕ → Result (Option Form) OtherFormat
-form_of s = told_by magics s
+form_of s = form_by magics s
 
 -- s is a proper prefix of a magic number
 abbrev pub begins_magic : List ℕ → Bool

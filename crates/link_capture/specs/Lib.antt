@@ -2,11 +2,11 @@ pub mod Block
 pub mod ErrorText
 pub mod Form
 pub mod Front
+pub mod Meaning
 pub mod Options
 pub mod Order
 pub mod OtherFormat
 pub mod Pcap
 pub mod Raw
 pub mod Same
-pub mod Told
 pub mod Unit

@@ -6,7 +6,7 @@ use Rattle.link_capture.specs.declared.form.Form.{Form}
 use Rattle.link_capture.specs.declared.form.Form.TheVariants.{Records}
 use Rattle.link_capture.specs.declared.order.Order.{Order}
 use Rattle.link_capture.specs.Order.{number_at}
-use Rattle.link_capture.specs.Told.{Told, APacket}
+use Rattle.link_capture.specs.Meaning.{UnitMeaning, APacket}
 
 -- the link type of netlink (LINKTYPE_NETLINK)
 abbrev pub netlink : ℕ
@@ -31,7 +31,7 @@ abbrev pub nanoseconds : ℕ → ℕ → ℕ → ℕ
 nanoseconds digits seconds parts = seconds * 10 ^ 9 + parts * 10 ^ (9 - digits)
 
 -- the packet of a record
-abbrev pub recorded : Order → ℕ → List ℕ → Told
+abbrev pub recorded : Order → ℕ → List ℕ → UnitMeaning
 recorded order digits u = APacket (record {
   time = record { nanosecond = pos (nanoseconds digits (number_at order 4 0 u) (number_at order 4 4 u)); digits = digits };
   original = number_at order 4 12 u;

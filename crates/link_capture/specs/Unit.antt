@@ -15,11 +15,11 @@ use Rattle.link_capture.specs.Block.{After, IsBlock}
 use Rattle.link_capture.specs.Front.{front_of, head_of, size_of, order_of}
 use Rattle.link_capture.specs.Pcap.{form_after, recorded}
 use Rattle.link_capture.specs.Raw.{streamed}
-use Rattle.link_capture.specs.Told.{Told, Nothing, State, told_of}
+use Rattle.link_capture.specs.Meaning.{UnitMeaning, Nothing, State, meaning_of}
 
 -- what is known after a unit, by what a function returns and the state then
 abbrev pub after_unit : State → Result Event InputError → After
-after_unit state (Ok event) = Ok (told_of event, state)
+after_unit state (Ok event) = Ok (meaning_of event, state)
 after_unit state (Err error) = Err error
 
 -- ---- a whole unit
@@ -46,12 +46,12 @@ IsTaken state u after = IsTakenAs state.form state.interfaces u after
 -- ---- the unit at the front of the bytes s
 
 -- a unit, what it means, how many bytes it has with its padding, and what is known after it
-pub record IsUnit (state : State) (s : List ℕ) (told : Told) (size : ℕ) (next : State) : Type 0 where
+pub record IsUnit (state : State) (s : List ℕ) (meaning : UnitMeaning) (size : ℕ) (next : State) : Type 0 where
   pub n : ℕ
   pub gap : ℕ
   pub front : front_of state.form s ≡ fronts.Sized n gap
   pub whole : n ≤ length s
-  pub taken : IsTaken state (take n s) (Ok (told, next))
+  pub taken : IsTaken state (take n s) (Ok (meaning, next))
   pub all : size ≡ min (n + gap) (length s)
 
 -- no unit, and why: the bytes end in the head of one, or after it; its start has an error; or the whole
@@ -70,9 +70,9 @@ IsFinal error = Unit {0}
 -- ---- an input
 
 -- the units of s from offset `at` lead from one state to another, where the bytes `left` are left at offset `end`
-abbrev pub Leads : State → ℕ → List ℕ → List Told → State → ℕ → List ℕ → Type 0
+abbrev pub Leads : State → ℕ → List ℕ → List UnitMeaning → State → ℕ → List ℕ → Type 0
 Leads state at s [] last end left = (last ≡ state) × (end ≡ at) × (left ≡ s)
-Leads state at s (told ∷ units) last end left = (next : State) × ((size : ℕ) × IsUnit state s told size next × Leads next (at + size) (drop size s) units last end left)
+Leads state at s (meaning ∷ units) last end left = (next : State) × ((size : ℕ) × IsUnit state s meaning size next × Leads next (at + size) (drop size s) units last end left)
 
 -- what ends an input, of which the bytes s are left at offset `at`: nothing, or an error
 abbrev pub IsEnd : State → ℕ → List ℕ → Option (ℕ × InputError) → Type 0
@@ -80,7 +80,7 @@ IsEnd state at s None = s ≡ []
 IsEnd state at s (Some fault) = (s ≢ []) × (fault.0 ≡ at) × IsError state s fault.1
 
 -- what the units of an input in this form mean, and what ends it
-pub record Reads (form : Form) (s : List ℕ) (units : List Told) (fault : Option (ℕ × InputError)) : Type 0 where
+pub record Reads (form : Form) (s : List ℕ) (units : List UnitMeaning) (fault : Option (ℕ × InputError)) : Type 0 where
   pub last : State
   pub end : ℕ
   pub left : List ℕ
@@ -102,5 +102,5 @@ Follows is_last more = is_last ≡ true → more ≡ []
 abbrev pub IsNext : State → List ℕ → Bool → Next → State → Type 0
 IsNext state s is_last nexts.More new = (new ≡ state) × (is_last ≡ false) × IsTooShort state s
 IsNext state s is_last nexts.End new = (new ≡ state) × (is_last ≡ true) × (s ≡ [])
-IsNext state s is_last (nexts.Unit event size) new = (0 < size) × (size ≤ length s) × ((more : List ℕ) → Follows is_last more → IsUnit state (s ++ more) (told_of event) size new)
+IsNext state s is_last (nexts.Unit event size) new = (0 < size) × (size ≤ length s) × ((more : List ℕ) → Follows is_last more → IsUnit state (s ++ more) (meaning_of event) size new)
 IsNext state s is_last (nexts.Wrong error) new = (new ≡ state) × ((more : List ℕ) → Follows is_last more → ((s ++ more) ≢ []) × IsError state (s ++ more) error)

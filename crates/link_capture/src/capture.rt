@@ -2,7 +2,7 @@
 
 ghost use Rattle.std.specs.Prelude.{◌≡◌, ◌≢◌, ◌≤◌, [], length, true, IsErr};
 ghost use Rattle.link_capture.specs.Front.{head_of, head_size, front_of};
-ghost use Rattle.link_capture.specs.Told.{State};
+ghost use Rattle.link_capture.specs.Meaning.{State};
 ghost use Rattle.link_capture.specs.Unit.{IsTaken, IsNext, after_unit};
 ghost use Rattle.link_capture.specs.declared.form.Form.TheVariants as forms;
 ghost use Rattle.link_capture.specs.declared.front.Front.TheVariants as fronts;

@@ -2,7 +2,7 @@
 
 ghost use Rattle.std.specs.Prelude.{◌≡◌, ◌&&◌, length, map, nat_eq, nat_lt, option_map};
 ghost use Rattle.std.specs.List.{find, list_any, starts_with};
-ghost use Rattle.link_capture.specs.Form.{told_by, form_of, begins_magic};
+ghost use Rattle.link_capture.specs.Form.{form_by, form_of, begins_magic};
 
 use crate::order::Order;
 use crate::other_format::OtherFormat;
@@ -90,7 +90,7 @@ impl Form {
     pub fn of_file(bytes: &[u8]) -> Result<Option<Form>, OtherFormat>
         ensures { result ≡ form_of bytes.now }
     {
-        told_by(&MAGICS, bytes)
+        form_by(&MAGICS, bytes)
     }
 
     /// Returns whether `bytes` are too few to tell the form of a file: fewer than those of a magic number that begins with
@@ -103,8 +103,8 @@ impl Form {
 }
 
 /// Returns what `bytes` tell by these magic numbers, as `Form::of_file` does.
-fn told_by(magics: &[Magic], bytes: &[u8]) -> Result<Option<Form>, OtherFormat>
-    ensures { result ≡ told_by (map (λ m. (m.0.now, m.1)) magics.now) bytes.now }
+fn form_by(magics: &[Magic], bytes: &[u8]) -> Result<Option<Form>, OtherFormat>
+    ensures { result ≡ form_by (map (λ m. (m.0.now, m.1)) magics.now) bytes.now }
 {
     found_in(magics, bytes).transpose()
 }
@@ -113,8 +113,8 @@ fn told_by(magics: &[Magic], bytes: &[u8]) -> Result<Option<Form>, OtherFormat>
 fn found_in(magics: &[Magic], bytes: &[u8]) -> Option<Result<Form, OtherFormat>>
     ensures { result ≡ option_map (λ m. m.1) (find (λ m. starts_with nat_eq bytes.now m.0.now) magics.now) }
 {
-    let (_, told) = magics.iter().find(|(magic, _)| bytes.starts_with(magic))?;
-    Some(*told)
+    let (_, known) = magics.iter().find(|(magic, _)| bytes.starts_with(magic))?;
+    Some(*known)
 }
 
 /// Returns whether `bytes` are a proper prefix of one of these magic numbers.

@@ -15,7 +15,7 @@ ghost use Rattle.link_capture.specs.declared.other_format.OtherFormat.{OtherForm
 ghost use Rattle.link_capture.specs.declared.pcapng.Interface.{Interface};
 ghost use Rattle.link_capture.specs.Form.{form_of, begins_magic};
 ghost use Rattle.link_capture.specs.Same.{IsSameNext};
-ghost use Rattle.link_capture.specs.Told.{Told, captured_of, told_of};
+ghost use Rattle.link_capture.specs.Meaning.{UnitMeaning, captured_of, meaning_of};
 ghost use Rattle.link_capture.specs.Unit.{IsFinal, Reads};
 
 use crate::capture::Next;
@@ -30,23 +30,23 @@ use crate::pcapng::Interface;
 /// States that all bytes can be read in each form, and in one way only: there is one list of what the units mean, and one
 /// end, with its offset.
 pub fn one_capture()
-    ensures exists { (form : Form) (s : List ℕ) → (units : List Told)
+    ensures exists { (form : Form) (s : List ℕ) → (units : List UnitMeaning)
         × ((fault : Option (ℕ × InputError)) × Reads form s units fault) }
-    ensures unique { (form : Form) (s : List ℕ) (xs ys : List Told) (e f : Option (ℕ × InputError))
+    ensures unique { (form : Form) (s : List ℕ) (xs ys : List UnitMeaning) (e f : Option (ℕ × InputError))
         → Reads form s xs e → Reads form s ys f → (xs ≡ ys) × (e ≡ f) }
 {}
 
 /// States that the error of an input is that of each longer input too, after the same units and at the same offset,
 /// unless it is that the bytes end within a unit.
 pub fn prefix()
-    ensures { (form : Form) (s more : List ℕ) (units : List Told) (fault : ℕ × InputError)
+    ensures { (form : Form) (s more : List ℕ) (units : List UnitMeaning) (fault : ℕ × InputError)
         → Reads form s units (Some fault) → IsFinal fault.1 → Reads form (s ++ more) units (Some fault) }
 {}
 
 /// States when the first bytes of a file tell its form, or its other format ([`Form::of_file`]): whatever follows, if they
 /// are not a proper prefix of a magic number. Otherwise they tell nothing, and with what follows they may.
-pub fn told_form()
-    ensures told { (s more : List ℕ) → begins_magic s ≡ false → form_of (s ++ more) ≡ form_of s }
+pub fn known_form()
+    ensures known { (s more : List ℕ) → begins_magic s ≡ false → form_of (s ++ more) ≡ form_of s }
     ensures begun { (s : List ℕ) → begins_magic s ≡ true → (form_of s ≡ Ok None)
         × ((more : List ℕ) × (form_of (s ++ more) ≢ Ok None)) }
 {}
@@ -65,6 +65,6 @@ pub fn equality()
     ensures time { (a b : Time) → IsTrue (⟦<Time as PartialEq>⟧.eq a b) ↔ (a ≡ b) }
     ensures packet { (a b : Packet) → IsTrue (⟦<Packet<'static> as PartialEq>⟧.eq a b)
         ↔ (captured_of a ≡ captured_of b) }
-    ensures event { (a b : Event) → IsTrue (⟦<Event<'static> as PartialEq>⟧.eq a b) ↔ (told_of a ≡ told_of b) }
+    ensures event { (a b : Event) → IsTrue (⟦<Event<'static> as PartialEq>⟧.eq a b) ↔ (meaning_of a ≡ meaning_of b) }
     ensures next { (a b : Next) → IsTrue (⟦<Next<'static> as PartialEq>⟧.eq a b) ↔ IsSameNext a b }
 {}

@@ -2,7 +2,7 @@
 
 ghost use Rattle.std.specs.Prelude.{◌≡◌, ◌≤◌, ◌^◌, ◌-◌, length};
 ghost use Rattle.link_capture.specs.Pcap.{form_after, recorded, nanoseconds};
-ghost use Rattle.link_capture.specs.Told.{told_of};
+ghost use Rattle.link_capture.specs.Meaning.{meaning_of};
 
 use crate::error::InputError;
 use crate::event::{Event, Packet, Time};
@@ -40,7 +40,7 @@ pub(crate) fn read_header(order: Order, digits: u8, unit: &[u8]) -> Result<Form,
 /// Returns the packet of a record.
 pub(crate) fn read_record(order: Order, digits: u8, unit: &[u8]) -> Event<'_>
     requires { 16 ≤ length unit.now }
-    ensures { told_of result ≡ recorded order digits unit.now }
+    ensures { meaning_of result ≡ recorded order digits unit.now }
 {
     let nanosecond = nanoseconds(digits, order.u32_at(unit, 0), order.u32_at(unit, 4));
     Event::Packet(Packet {

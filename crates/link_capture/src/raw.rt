@@ -2,7 +2,7 @@
 
 ghost use Rattle.std.specs.Prelude.{◌≡◌, ◌≤◌, length};
 ghost use Rattle.link_capture.specs.Raw.{streamed};
-ghost use Rattle.link_capture.specs.Told.{told_of};
+ghost use Rattle.link_capture.specs.Meaning.{meaning_of};
 
 use crate::event::{Event, Time};
 use crate::order::Order;
@@ -14,7 +14,7 @@ const TIMESTAMP: u16 = 15;
 /// Returns a message, or a time.
 pub(crate) fn read_message(unit: &[u8]) -> Event<'_>
     requires { 16 ≤ length unit.now }
-    ensures { told_of result ≡ streamed unit.now }
+    ensures { meaning_of result ≡ streamed unit.now }
 {
     if Order::Little.u16_at(unit, 4) == TIMESTAMP && unit.len() == 24 {
         let nanosecond = nanoseconds(

@@ -4,14 +4,14 @@ use Rattle.std.specs.Int.{w32, cast_unsigned}
 use Rattle.link_base.specs.Layout.{octets_of, octets_by}
 use Rattle.link_base.specs.Structs.{packed}
 use Rattle.link_base.specs.Class.{Number, Raw}
-use Rattle.link_base.specs.Payloads.{u32, u8_coded, u32_flags, ipv6, struct_of, u64s, i32_counters, bytes}
+use Rattle.link_base.specs.Payloads.{u32, u8_coded, u32_flags, ipv6, struct_of, u64_counters, i32_counters, bytes}
 use Rattle.link_base.specs.declared.rows.form.Layout.TheVariants as layouts
 use Rattle.link_base.specs.declared.classes.lengths.Lengths.TheVariants as lengths
 use Rattle.link_base.specs.Table.{Table, AttrValue, Case, Single, row, prefixed}
 use Rattle.link_base.specs.IpAddress.{sixteen_octets}
 use Rattle.link_base.specs.Default.{default_means}
 use Rattle.link_common.specs.InetNames.{inet6_flags_names, addr_gen_mode_names}
-use Rattle.link_common.specs.Places.{ipv6_conf_names}
+use Rattle.link_common.specs.Places.{ipv6_conf_names, ipv6_stats_names, icmp6_stats_names}
 use Rattle.link_common.specs.CacheInfo.{cache_info_fields, cache_info_held}
 use Rattle.link_common.specs.declared.inet6.AfSpecInet6.{AfSpecInet6}
 use Rattle.link_common.specs.declared.inet6.AfSpecInet6.TheVariants as infos
@@ -21,10 +21,10 @@ abbrev pub inet6_table : Table
 inet6_table = prefixed "IFLA_INET6_" (
     row 1 "IFLA_INET6_FLAGS" (u32_flags inet6_flags_names) ∷
     row 2 "IFLA_INET6_CONF" (i32_counters ipv6_conf_names) ∷
-    row 3 "IFLA_INET6_STATS" u64s ∷
+    row 3 "IFLA_INET6_STATS" (u64_counters ipv6_stats_names) ∷
     row 4 "IFLA_INET6_MCAST" bytes ∷
     row 5 "IFLA_INET6_CACHEINFO" (struct_of (layouts.Other (lengths.AtLeast 16)) cache_info_fields) ∷
-    row 6 "IFLA_INET6_ICMP6STATS" u64s ∷
+    row 6 "IFLA_INET6_ICMP6STATS" (u64_counters icmp6_stats_names) ∷
     row 7 "IFLA_INET6_TOKEN" ipv6 ∷
     row 8 "IFLA_INET6_ADDR_GEN_MODE" (u8_coded addr_gen_mode_names) ∷
     row 9 "IFLA_INET6_RA_MTU" u32 ∷ [])

@@ -158,3 +158,22 @@ ipv6_conf_names =
     (57, codes "accept_untracked_na") ∷
     (58, codes "accept_ra_min_lft") ∷
     (59, codes "force_forwarding") ∷ []
+
+-- IPSTATS_MIB_..: the place of a counter is its number. From 4 on, kernels differ in what a number counts
+abbrev pub ipv6_stats_names : List (ℕ × List ℕ)
+ipv6_stats_names =
+    (0, codes "num") ∷
+    (1, codes "inpkts") ∷
+    (2, codes "inoctets") ∷
+    (3, codes "indelivers") ∷ []
+
+-- ICMP6_MIB_..: the place of a counter is its number
+abbrev pub icmp6_stats_names : List (ℕ × List ℕ)
+icmp6_stats_names =
+    (0, codes "num") ∷
+    (1, codes "inmsgs") ∷
+    (2, codes "inerrors") ∷
+    (3, codes "outmsgs") ∷
+    (4, codes "outerrors") ∷
+    (5, codes "csumerrors") ∷
+    (6, codes "ratelimithost") ∷ []

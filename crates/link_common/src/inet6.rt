@@ -4,13 +4,12 @@ ghost use Rattle.link_common.specs.Inet6.{inet6_table, inet6_means};
 
 use crate::cache_info::CacheInfo;
 use crate::inet_names::{AddrGenMode, Inet6Flags};
-use crate::places::Ipv6Conf;
+use crate::places::{Icmp6Stats, Ipv6Conf, Ipv6Stats};
 use link_base::classes::coded::{CodedFlags, Counters};
-use link_base::rows::by_rows::{self, AttributeRows, RowVisitor};
-use link_base::rows::label::KindLabel;
+use link_base::rows::by_rows::{AttributeRows, RowVisitor};
 use link_base::{
-    Attribute, Coded, DecodeError, DecodeFault, DefaultNla, Meaning, Nla, NlaBuffer, Parseable,
-    Place, Struct, TryClone,
+    Attribute, Coded, DecodeError, DefaultNla, Meaning, Nla, NlaBuffer, Parseable, Place, Struct,
+    TryClone,
 };
 use std::alloc::{AllocError, Global};
 use std::net::Ipv6Addr;
@@ -25,8 +24,8 @@ pub enum AfSpecInet6 {
     Flags(u32),
     /// Settings for IPv6 (`IFLA_INET6_CONF`, an array of `i32`, read-only).
     Conf(Vec<i32>),
-    /// Counters of packets, of which the first is their number; kernels differ in their order (`IFLA_INET6_STATS`, an
-    /// array of `u64`, read-only).
+    /// Counters of packets, of which the first is their number; kernels differ in the order of those from number 4 on
+    /// (`IFLA_INET6_STATS`, an array of `u64`, read-only).
     Stats(Vec<u64>),
     /// Not used by the kernel (`IFLA_INET6_MCAST`, bytes).
     Mcast(Vec<u8>),
@@ -52,10 +51,10 @@ macro_rules! rows {
             "IFLA_INET6_";
             IFLA_INET6_FLAGS = 1, Flags: CodedFlags<Inet6Flags>;
             IFLA_INET6_CONF = 2, Conf: Counters<Ipv6Conf>;
-            IFLA_INET6_STATS = 3, Stats: Vec<u64>;
+            IFLA_INET6_STATS = 3, Stats: Counters<Ipv6Stats>;
             IFLA_INET6_MCAST = 4, Mcast: Vec<u8>;
             IFLA_INET6_CACHEINFO = 5, CacheInfo: Struct<CacheInfo>;
-            IFLA_INET6_ICMP6STATS = 6, Icmp6Stats: Vec<u64>;
+            IFLA_INET6_ICMP6STATS = 6, Icmp6Stats: Counters<Icmp6Stats>;
             IFLA_INET6_TOKEN = 7, Token: Ipv6Addr;
             IFLA_INET6_ADDR_GEN_MODE = 8, AddrGenMode: Coded<AddrGenMode>;
             IFLA_INET6_RA_MTU = 9, RaMtu: u32;
@@ -112,20 +111,6 @@ impl Attribute for AfSpecInet6 {
     ghost use Rattle.link_base.specs.Equality.{of_cases, thorough_fields};
     ghost use Rattle.link_common.specs.LinkEquality.{cache_infos};
     ghost use Rattle.link_common.specs.contracts.inet6.AfSpecInet6.{enum};
-
-    #[inline(always)]
-    fn check(buffer: &NlaBuffer<'_>) -> Result<(), DecodeFault> {
-        by_rows::check::<Self>(buffer)
-    }
-
-    #[inline(always)]
-    fn label(list: Option<u16>, kind: u16) -> Option<KindLabel> {
-        by_rows::label::<Self>(list, kind)
-    }
-
-    fn canonical(buffer: &NlaBuffer<'_>) -> bool {
-        by_rows::canonical::<Self>(buffer)
-    }
 
     ghost lawful = { lawful inet6_table };
 

@@ -16,24 +16,7 @@ impl NumberNames for AddrGenMode {
     ghost names = { addr_gen_mode_names };
 
     fn names() -> &'static [Name] {
-        &[
-            Name {
-                number: 0,
-                text: "eui64",
-            },
-            Name {
-                number: 1,
-                text: "none",
-            },
-            Name {
-                number: 2,
-                text: "stable_secret",
-            },
-            Name {
-                number: 3,
-                text: "random",
-            },
-        ]
+        link_base::names![0 "eui64" 1 "none" 2 "stable_secret" 3 "random"]
     }
 }
 
@@ -47,27 +30,12 @@ impl NumberNames for Inet6Flags {
     ghost names = { inet6_flags_names };
 
     fn names() -> &'static [Name] {
-        &[
-            Name {
-                number: 0x10,
-                text: "RS_SENT",
-            },
-            Name {
-                number: 0x20,
-                text: "RA_RCVD",
-            },
-            Name {
-                number: 0x40,
-                text: "RA_MANAGED",
-            },
-            Name {
-                number: 0x80,
-                text: "RA_OTHERCONF",
-            },
-            Name {
-                number: 0x80000000,
-                text: "READY",
-            },
+        link_base::names![
+            0x10 "RS_SENT"
+            0x20 "RA_RCVD"
+            0x40 "RA_MANAGED"
+            0x80 "RA_OTHERCONF"
+            0x80000000 "READY"
         ]
     }
 }

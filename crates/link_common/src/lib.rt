@@ -34,6 +34,6 @@ pub use link_names::{ExtMask, LinkEvent, LinkMode, OperState, XdpAttached, XdpFl
 pub use link_property::LinkProperty;
 pub use link_xdp::LinkXdp;
 pub use mctp::AfSpecMctp;
-pub use places::{Ipv4Conf, Ipv6Conf, LinkStats, LinkStats64};
+pub use places::{Icmp6Stats, Ipv4Conf, Ipv6Conf, Ipv6Stats, LinkStats, LinkStats64};
 pub use proto_down_reason::ProtoDownReason;
 pub use reply::ReplyAttribute;

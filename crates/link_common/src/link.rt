@@ -13,11 +13,10 @@ use crate::places::{LinkStats, LinkStats64};
 use crate::proto_down_reason::ProtoDownReason;
 use link_base::classes::coded::{CodedFlags, Counters};
 use link_base::classes::shown::{Held, Shown, Text};
-use link_base::rows::by_rows::{self, AttributeRows, RowVisitor};
-use link_base::rows::label::KindLabel;
+use link_base::rows::by_rows::{AttributeRows, RowVisitor};
 use link_base::{
-    Attribute, Coded, DecodeError, DecodeFault, DefaultNla, Meaning, NestedList, Nla, NlaBuffer,
-    Parseable, Place, Struct, TryClone,
+    Attribute, Coded, DecodeError, DefaultNla, Meaning, NestedList, Nla, NlaBuffer, Parseable,
+    Place, Struct, TryClone,
 };
 use std::alloc::{AllocError, Global};
 
@@ -315,20 +314,6 @@ impl Attribute for LinkAttribute {
     ghost use Rattle.link_common.specs.contracts.devlink_port.DevlinkPortAttribute.TheImpl.Laws as ports;
     ghost use Rattle.link_common.specs.contracts.dpll_pin.DpllPinAttribute.TheImpl.Laws as pins;
     ghost use Rattle.link_common.specs.contracts.link.LinkAttribute.{enum};
-
-    #[inline(always)]
-    fn check(buffer: &NlaBuffer<'_>) -> Result<(), DecodeFault> {
-        by_rows::check::<Self>(buffer)
-    }
-
-    #[inline(always)]
-    fn label(list: Option<u16>, kind: u16) -> Option<KindLabel> {
-        by_rows::label::<Self>(list, kind)
-    }
-
-    fn canonical(buffer: &NlaBuffer<'_>) -> bool {
-        by_rows::canonical::<Self>(buffer)
-    }
 
     ghost lawful = { lawful link_table };
 

@@ -15,35 +15,14 @@ impl NumberNames for OperState {
     ghost names = { oper_state_names };
 
     fn names() -> &'static [Name] {
-        &[
-            Name {
-                number: 0,
-                text: "UNKNOWN",
-            },
-            Name {
-                number: 1,
-                text: "NOTPRESENT",
-            },
-            Name {
-                number: 2,
-                text: "DOWN",
-            },
-            Name {
-                number: 3,
-                text: "LOWERLAYERDOWN",
-            },
-            Name {
-                number: 4,
-                text: "TESTING",
-            },
-            Name {
-                number: 5,
-                text: "DORMANT",
-            },
-            Name {
-                number: 6,
-                text: "UP",
-            },
+        link_base::names![
+            0 "UNKNOWN"
+            1 "NOTPRESENT"
+            2 "DOWN"
+            3 "LOWERLAYERDOWN"
+            4 "TESTING"
+            5 "DORMANT"
+            6 "UP"
         ]
     }
 }
@@ -59,20 +38,7 @@ impl NumberNames for LinkMode {
     ghost names = { link_mode_names };
 
     fn names() -> &'static [Name] {
-        &[
-            Name {
-                number: 0,
-                text: "DEFAULT",
-            },
-            Name {
-                number: 1,
-                text: "DORMANT",
-            },
-            Name {
-                number: 2,
-                text: "TESTING",
-            },
-        ]
+        link_base::names![0 "DEFAULT" 1 "DORMANT" 2 "TESTING"]
     }
 }
 
@@ -86,35 +52,14 @@ impl NumberNames for LinkEvent {
     ghost names = { link_event_names };
 
     fn names() -> &'static [Name] {
-        &[
-            Name {
-                number: 0,
-                text: "NONE",
-            },
-            Name {
-                number: 1,
-                text: "REBOOT",
-            },
-            Name {
-                number: 2,
-                text: "FEATURE CHANGE",
-            },
-            Name {
-                number: 3,
-                text: "BONDING FAILOVER",
-            },
-            Name {
-                number: 4,
-                text: "NOTIFY PEERS",
-            },
-            Name {
-                number: 5,
-                text: "RESEND IGMP",
-            },
-            Name {
-                number: 6,
-                text: "BONDING OPTION",
-            },
+        link_base::names![
+            0 "NONE"
+            1 "REBOOT"
+            2 "FEATURE CHANGE"
+            3 "BONDING FAILOVER"
+            4 "NOTIFY PEERS"
+            5 "RESEND IGMP"
+            6 "BONDING OPTION"
         ]
     }
 }
@@ -130,39 +75,15 @@ impl NumberNames for ExtMask {
     ghost names = { ext_mask_names };
 
     fn names() -> &'static [Name] {
-        &[
-            Name {
-                number: 0x1,
-                text: "VF",
-            },
-            Name {
-                number: 0x2,
-                text: "BRVLAN",
-            },
-            Name {
-                number: 0x4,
-                text: "BRVLAN_COMPRESSED",
-            },
-            Name {
-                number: 0x8,
-                text: "SKIP_STATS",
-            },
-            Name {
-                number: 0x10,
-                text: "MRP",
-            },
-            Name {
-                number: 0x20,
-                text: "CFM_CONFIG",
-            },
-            Name {
-                number: 0x40,
-                text: "CFM_STATUS",
-            },
-            Name {
-                number: 0x80,
-                text: "MST",
-            },
+        link_base::names![
+            0x1 "VF"
+            0x2 "BRVLAN"
+            0x4 "BRVLAN_COMPRESSED"
+            0x8 "SKIP_STATS"
+            0x10 "MRP"
+            0x20 "CFM_CONFIG"
+            0x40 "CFM_STATUS"
+            0x80 "MST"
         ]
     }
 }
@@ -178,28 +99,7 @@ impl NumberNames for XdpAttached {
     ghost names = { xdp_attached_names };
 
     fn names() -> &'static [Name] {
-        &[
-            Name {
-                number: 0,
-                text: "none",
-            },
-            Name {
-                number: 1,
-                text: "xdp",
-            },
-            Name {
-                number: 2,
-                text: "xdpgeneric",
-            },
-            Name {
-                number: 3,
-                text: "xdpoffload",
-            },
-            Name {
-                number: 4,
-                text: "xdpmulti",
-            },
-        ]
+        link_base::names![0 "none" 1 "xdp" 2 "xdpgeneric" 3 "xdpoffload" 4 "xdpmulti"]
     }
 }
 
@@ -213,27 +113,12 @@ impl NumberNames for XdpFlags {
     ghost names = { xdp_flags_names };
 
     fn names() -> &'static [Name] {
-        &[
-            Name {
-                number: 0x1,
-                text: "UPDATE_IF_NOEXIST",
-            },
-            Name {
-                number: 0x2,
-                text: "SKB_MODE",
-            },
-            Name {
-                number: 0x4,
-                text: "DRV_MODE",
-            },
-            Name {
-                number: 0x8,
-                text: "HW_MODE",
-            },
-            Name {
-                number: 0x10,
-                text: "REPLACE",
-            },
+        link_base::names![
+            0x1 "UPDATE_IF_NOEXIST"
+            0x2 "SKB_MODE"
+            0x4 "DRV_MODE"
+            0x8 "HW_MODE"
+            0x10 "REPLACE"
         ]
     }
 }

@@ -6,11 +6,10 @@ ghost use Rattle.link_common.specs.LinkXdp.{link_xdp_rows, link_xdp_leaf};
 
 use crate::link_names::{XdpAttached, XdpFlags};
 use link_base::classes::coded::CodedFlags;
-use link_base::rows::by_rows::{self, AttributeRows, RowVisitor};
-use link_base::rows::label::KindLabel;
+use link_base::rows::by_rows::{AttributeRows, RowVisitor};
 use link_base::{
-    Attribute, Coded, DecodeError, DecodeFault, DefaultNla, Meaning, NestedAttribute, Nla,
-    NlaBuffer, Parseable, Place, TryClone,
+    Attribute, Coded, DecodeError, DefaultNla, Meaning, NestedAttribute, Nla, NlaBuffer, Parseable,
+    Place, TryClone,
 };
 use std::alloc::{AllocError, Global};
 
@@ -105,19 +104,6 @@ impl Attribute for LinkXdp {
     ghost use Rattle.link_base.proofs.TableLaws.{lawful};
     ghost use Rattle.link_base.specs.Equality.{of_cases, thorough_fields};
     ghost use Rattle.link_common.specs.contracts.link_xdp.LinkXdp.{enum};
-
-    fn check(buffer: &NlaBuffer<'_>) -> Result<(), DecodeFault> {
-        by_rows::check::<Self>(buffer)
-    }
-
-    #[inline(always)]
-    fn label(list: Option<u16>, kind: u16) -> Option<KindLabel> {
-        by_rows::label::<Self>(list, kind)
-    }
-
-    fn canonical(buffer: &NlaBuffer<'_>) -> bool {
-        by_rows::canonical::<Self>(buffer)
-    }
 
     ghost lawful = { lawful (lift_table link_xdp_rows) };
 

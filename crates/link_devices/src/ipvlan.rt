@@ -4,11 +4,11 @@ ghost use Rattle.link_devices.specs.Ipvlan.{ipvlan_table, ipvlan_means};
 ghost use Rattle.link_devices.specs.IpvlanNames.{ipvlan_flags_names, ipvlan_mode_names};
 
 use link_base::classes::coded::CodedFlags;
-use link_base::rows::by_rows::{self, AttributeRows, RowVisitor};
-use link_base::rows::label::{KindLabel, Name};
+use link_base::rows::by_rows::{AttributeRows, RowVisitor};
+use link_base::rows::label::Name;
 use link_base::{
-    Attribute, Coded, DecodeError, DecodeFault, DefaultNla, Meaning, Nla, NlaBuffer, NumberNames,
-    Parseable, Place, TryClone,
+    Attribute, Coded, DecodeError, DefaultNla, Meaning, Nla, NlaBuffer, NumberNames, Parseable,
+    Place, TryClone,
 };
 use std::alloc::{AllocError, Global};
 
@@ -35,20 +35,7 @@ impl NumberNames for IpvlanMode {
     ghost names = { ipvlan_mode_names };
 
     fn names() -> &'static [Name] {
-        &[
-            Name {
-                number: 0,
-                text: "l2",
-            },
-            Name {
-                number: 1,
-                text: "l3",
-            },
-            Name {
-                number: 2,
-                text: "l3s",
-            },
-        ]
+        link_base::names![0 "l2" 1 "l3" 2 "l3s"]
     }
 }
 
@@ -62,16 +49,7 @@ impl NumberNames for IpvlanFlags {
     ghost names = { ipvlan_flags_names };
 
     fn names() -> &'static [Name] {
-        &[
-            Name {
-                number: 1,
-                text: "PRIVATE",
-            },
-            Name {
-                number: 2,
-                text: "VEPA",
-            },
-        ]
+        link_base::names![1 "PRIVATE" 2 "VEPA"]
     }
 }
 
@@ -134,20 +112,6 @@ impl Attribute for InfoIpVlan {
     ghost use Rattle.link_base.proofs.TableLaws.{lawful};
     ghost use Rattle.link_base.specs.Equality.{of_cases, thorough_fields};
     ghost use Rattle.link_devices.specs.contracts.ipvlan.InfoIpVlan.{enum};
-
-    #[inline(always)]
-    fn check(buffer: &NlaBuffer<'_>) -> Result<(), DecodeFault> {
-        by_rows::check::<Self>(buffer)
-    }
-
-    #[inline(always)]
-    fn label(list: Option<u16>, kind: u16) -> Option<KindLabel> {
-        by_rows::label::<Self>(list, kind)
-    }
-
-    fn canonical(buffer: &NlaBuffer<'_>) -> bool {
-        by_rows::canonical::<Self>(buffer)
-    }
 
     ghost lawful = { lawful ipvlan_table };
 

@@ -5,11 +5,11 @@ ghost use Rattle.link_devices.specs.MacvlanNames.{macvlan_address_mode_names, ma
 
 use crate::macvlan_address::MacVlanAddress;
 use link_base::classes::coded::CodedFlags;
-use link_base::rows::by_rows::{self, AttributeRows, RowVisitor};
-use link_base::rows::label::{KindLabel, Name};
+use link_base::rows::by_rows::{AttributeRows, RowVisitor};
+use link_base::rows::label::Name;
 use link_base::{
-    Attribute, Coded, DecodeError, DecodeFault, DefaultNla, Meaning, NestedList, Nla, NlaBuffer,
-    NumberNames, Parseable, Place, TryClone,
+    Attribute, Coded, DecodeError, DefaultNla, Meaning, NestedList, Nla, NlaBuffer, NumberNames,
+    Parseable, Place, TryClone,
 };
 use std::alloc::{AllocError, Global};
 
@@ -57,28 +57,7 @@ impl NumberNames for MacvlanMode {
     ghost names = { macvlan_mode_names };
 
     fn names() -> &'static [Name] {
-        &[
-            Name {
-                number: 1,
-                text: "private",
-            },
-            Name {
-                number: 2,
-                text: "vepa",
-            },
-            Name {
-                number: 4,
-                text: "bridge",
-            },
-            Name {
-                number: 8,
-                text: "passthru",
-            },
-            Name {
-                number: 16,
-                text: "source",
-            },
-        ]
+        link_base::names![1 "private" 2 "vepa" 4 "bridge" 8 "passthru" 16 "source"]
     }
 }
 
@@ -92,16 +71,7 @@ impl NumberNames for MacvlanFlags {
     ghost names = { macvlan_flags_names };
 
     fn names() -> &'static [Name] {
-        &[
-            Name {
-                number: 1,
-                text: "NOPROMISC",
-            },
-            Name {
-                number: 2,
-                text: "NODST",
-            },
-        ]
+        link_base::names![1 "NOPROMISC" 2 "NODST"]
     }
 }
 
@@ -115,24 +85,7 @@ impl NumberNames for MacvlanAddressMode {
     ghost names = { macvlan_address_mode_names };
 
     fn names() -> &'static [Name] {
-        &[
-            Name {
-                number: 0,
-                text: "add",
-            },
-            Name {
-                number: 1,
-                text: "del",
-            },
-            Name {
-                number: 2,
-                text: "flush",
-            },
-            Name {
-                number: 3,
-                text: "set",
-            },
-        ]
+        link_base::names![0 "add" 1 "del" 2 "flush" 3 "set"]
     }
 }
 
@@ -203,20 +156,6 @@ impl Attribute for InfoMacVlan {
     ghost use Rattle.link_base.specs.Equality.{of_cases, thorough_fields};
     ghost use Rattle.link_devices.specs.contracts.macvlan_address.MacVlanAddressAttribute.TheImpl.Laws as addresses;
     ghost use Rattle.link_devices.specs.contracts.macvlan.InfoMacVlan.{enum};
-
-    #[inline(always)]
-    fn check(buffer: &NlaBuffer<'_>) -> Result<(), DecodeFault> {
-        by_rows::check::<Self>(buffer)
-    }
-
-    #[inline(always)]
-    fn label(list: Option<u16>, kind: u16) -> Option<KindLabel> {
-        by_rows::label::<Self>(list, kind)
-    }
-
-    fn canonical(buffer: &NlaBuffer<'_>) -> bool {
-        by_rows::canonical::<Self>(buffer)
-    }
 
     ghost lawful = { lawful macvlan_table };
 

@@ -4,11 +4,11 @@ ghost use Rattle.link_devices.specs.Netkit.{netkit_table, netkit_means};
 ghost use Rattle.link_devices.specs.NetkitNames.{netkit_mode_names, netkit_policy_names, netkit_scrub_names};
 
 use link_base::classes::peer::Peer;
-use link_base::rows::by_rows::{self, AttributeRows, RowVisitor};
-use link_base::rows::label::{KindLabel, Name};
+use link_base::rows::by_rows::{AttributeRows, RowVisitor};
+use link_base::rows::label::Name;
 use link_base::{
-    Attribute, Coded, DecodeError, DecodeFault, DefaultNla, Meaning, Nla, NlaBuffer, NumberNames,
-    Parseable, Place, TryClone,
+    Attribute, Coded, DecodeError, DefaultNla, Meaning, Nla, NlaBuffer, NumberNames, Parseable,
+    Place, TryClone,
 };
 use std::alloc::{AllocError, Global};
 
@@ -52,16 +52,7 @@ impl NumberNames for NetkitPolicy {
     ghost names = { netkit_policy_names };
 
     fn names() -> &'static [Name] {
-        &[
-            Name {
-                number: 0,
-                text: "forward",
-            },
-            Name {
-                number: 2,
-                text: "blackhole",
-            },
-        ]
+        link_base::names![0 "forward" 2 "blackhole"]
     }
 }
 
@@ -75,16 +66,7 @@ impl NumberNames for NetkitMode {
     ghost names = { netkit_mode_names };
 
     fn names() -> &'static [Name] {
-        &[
-            Name {
-                number: 0,
-                text: "l2",
-            },
-            Name {
-                number: 1,
-                text: "l3",
-            },
-        ]
+        link_base::names![0 "l2" 1 "l3"]
     }
 }
 
@@ -98,16 +80,7 @@ impl NumberNames for NetkitScrub {
     ghost names = { netkit_scrub_names };
 
     fn names() -> &'static [Name] {
-        &[
-            Name {
-                number: 0,
-                text: "none",
-            },
-            Name {
-                number: 1,
-                text: "default",
-            },
-        ]
+        link_base::names![0 "none" 1 "default"]
     }
 }
 
@@ -177,20 +150,6 @@ impl Attribute for InfoNetkit {
     ghost use Rattle.link_base.proofs.TableLaws.{lawful};
     ghost use Rattle.link_base.specs.Equality.{of_cases, thorough_fields};
     ghost use Rattle.link_devices.specs.contracts.netkit.InfoNetkit.{enum};
-
-    #[inline(always)]
-    fn check(buffer: &NlaBuffer<'_>) -> Result<(), DecodeFault> {
-        by_rows::check::<Self>(buffer)
-    }
-
-    #[inline(always)]
-    fn label(list: Option<u16>, kind: u16) -> Option<KindLabel> {
-        by_rows::label::<Self>(list, kind)
-    }
-
-    fn canonical(buffer: &NlaBuffer<'_>) -> bool {
-        by_rows::canonical::<Self>(buffer)
-    }
 
     ghost lawful = { lawful netkit_table };
 

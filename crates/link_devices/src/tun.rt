@@ -3,11 +3,11 @@
 ghost use Rattle.link_devices.specs.Tun.{tun_table, tun_means};
 ghost use Rattle.link_devices.specs.TunNames.{tun_type_names};
 
-use link_base::rows::by_rows::{self, AttributeRows, RowVisitor};
-use link_base::rows::label::{KindLabel, Name};
+use link_base::rows::by_rows::{AttributeRows, RowVisitor};
+use link_base::rows::label::Name;
 use link_base::{
-    Attribute, Coded, DecodeError, DecodeFault, DefaultNla, Meaning, Nla, NlaBuffer, NumberNames,
-    Parseable, Place, TryClone,
+    Attribute, Coded, DecodeError, DefaultNla, Meaning, Nla, NlaBuffer, NumberNames, Parseable,
+    Place, TryClone,
 };
 use std::alloc::{AllocError, Global};
 
@@ -48,16 +48,7 @@ impl NumberNames for TunType {
     ghost names = { tun_type_names };
 
     fn names() -> &'static [Name] {
-        &[
-            Name {
-                number: 1,
-                text: "tun",
-            },
-            Name {
-                number: 2,
-                text: "tap",
-            },
-        ]
+        link_base::names![1 "tun" 2 "tap"]
     }
 }
 
@@ -127,20 +118,6 @@ impl Attribute for InfoTun {
     ghost use Rattle.link_base.proofs.TableLaws.{lawful};
     ghost use Rattle.link_base.specs.Equality.{of_cases, thorough_fields};
     ghost use Rattle.link_devices.specs.contracts.tun.InfoTun.{enum};
-
-    #[inline(always)]
-    fn check(buffer: &NlaBuffer<'_>) -> Result<(), DecodeFault> {
-        by_rows::check::<Self>(buffer)
-    }
-
-    #[inline(always)]
-    fn label(list: Option<u16>, kind: u16) -> Option<KindLabel> {
-        by_rows::label::<Self>(list, kind)
-    }
-
-    fn canonical(buffer: &NlaBuffer<'_>) -> bool {
-        by_rows::canonical::<Self>(buffer)
-    }
 
     ghost lawful = { lawful tun_table };
 

@@ -3,11 +3,9 @@
 ghost use Rattle.link_devices.specs.Veth.{veth_table, veth_means};
 
 use link_base::classes::peer::Peer;
-use link_base::rows::by_rows::{self, AttributeRows, RowVisitor};
-use link_base::rows::label::KindLabel;
+use link_base::rows::by_rows::{AttributeRows, RowVisitor};
 use link_base::{
-    Attribute, DecodeError, DecodeFault, DefaultNla, Meaning, Nla, NlaBuffer, Parseable, Place,
-    TryClone,
+    Attribute, DecodeError, DefaultNla, Meaning, Nla, NlaBuffer, Parseable, Place, TryClone,
 };
 use std::alloc::{AllocError, Global};
 
@@ -82,20 +80,6 @@ impl Attribute for InfoVeth {
     ghost use Rattle.link_base.proofs.TableLaws.{lawful};
     ghost use Rattle.link_base.specs.Equality.{of_cases, thorough_fields};
     ghost use Rattle.link_devices.specs.contracts.veth.InfoVeth.{enum};
-
-    #[inline(always)]
-    fn check(buffer: &NlaBuffer<'_>) -> Result<(), DecodeFault> {
-        by_rows::check::<Self>(buffer)
-    }
-
-    #[inline(always)]
-    fn label(list: Option<u16>, kind: u16) -> Option<KindLabel> {
-        by_rows::label::<Self>(list, kind)
-    }
-
-    fn canonical(buffer: &NlaBuffer<'_>) -> bool {
-        by_rows::canonical::<Self>(buffer)
-    }
 
     ghost lawful = { lawful veth_table };
 

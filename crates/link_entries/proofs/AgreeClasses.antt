@@ -1,4 +1,4 @@
--- What is read of a payload that an entry spells: every form of a single value, and lists without their elements.
+-- What is read of a payload that an entry encodes to: every form of a single value, and lists without their elements.
 use Rattle.std.proofs.Common.{◌≡◌, inl, inr, ℕ, zero, suc, ◌-◌, ◌%◌, ◌<◌, ◌≤◌, ◌==◌, ◌&&◌, ◌||◌, Bool, true, false, cond, List, ◌++◌, length, map, take, drop, reverse, Option, Some, None, Result, Ok, Err, refl, sym, ap, subst, ◌∙◌, arith, take_all, take_at, drop_at, ◌+◌}
 use Rattle.std.specs.Prelude.{nat_le, nat_lt, slice_index}
 use Rattle.std.specs.Int.{w32, w64, cast_signed, cast_unsigned}
@@ -26,7 +26,7 @@ use Rattle.link_entries.specs.declared.entry.Entry.{Entry}
 use Rattle.link_entries.specs.Entry.{padded}
 use Rattle.link_entries.specs.Content.{with_struct}
 use Rattle.link_entries.specs.Forms.{form_bool, form_flags}
-use Rattle.link_entries.proofs.OneContent.{number-named, number_told, told_by, fields_by, struct_told, value_at}
+use Rattle.link_entries.proofs.OneContent.{number-named, number_by_order, with_payload_value, fields_by, struct_taken, value_at}
 use Rattle.link_entries.specs.declared.fields.Fields.{Fields}
 use Rattle.link_entries.specs.declared.fields.Fields.TheVariants as fields
 use Rattle.link_entries.specs.declared.misfit.Misfit.{Misfit}
@@ -34,7 +34,7 @@ use Rattle.link_entries.specs.declared.misfit.Misfit.TheVariants.{BadNumber, Bad
 use Rattle.link_entries.specs.Fields.{any_number, struct_fields, row_fields, fields_in, fields_at}
 use Rattle.link_entries.specs.Payload.{form_in, is_i32, only_if, passed, payload_of, pair_of, rewritten, has_form, field_of}
 use Rattle.link_entries.specs.Agreement.{IsEntry, referred, SameContent, IsSame}
-use Rattle.link_entries.proofs.RowForms.{is_value, size_in, is_sized, SpellsAny, struct_sized, tied, is_list, with_kind, struct_value, value_no_list, NoRow, OneValue, Array, AddressList, NestedList, row_says}
+use Rattle.link_entries.proofs.RowForms.{is_value, size_in, is_sized, EncodesAny, struct_sized, tied, is_list, with_kind, struct_value, value_no_list, NoRow, OneValue, Array, AddressList, NestedList, row_says}
 use Rattle.link_entries.proofs.FlagBytes.{flag_read}
 use Rattle.link_entries.proofs.BackValues.{StandsAt, negative, padded_back}
 use Rattle.link_entries.proofs.WrittenLists.{same_these, if_held, only_held, both_true, content_ok, passed_held, headed_held}
@@ -79,7 +79,7 @@ abbrev pub IsRead : Fields → List ℕ → Entry → List ℕ → Entry → Typ
 IsRead own octets e list r = (r.form ≡ form_in own) × SameContent own octets e list r
 
 -- a number that fits is that of its bytes
-again : (order : Order) (n x : ℕ) → x < bound n → number_told order (classes.Raw (bytes_by order n x)) ≡ x
+again : (order : Order) (n x : ℕ) → x < bound n → number_by_order order (classes.Raw (bytes_by order n x)) ≡ x
 again orders.Little n x low = number-bytes_of n x low
 again orders.Big n x low = be_again n x low
 
@@ -93,10 +93,10 @@ module _ (e : Entry) (octets p : List ℕ) (held : IsEntry e) where
   some_bound widths.One h = omega (arith, h)
   some_bound w h = omega (arith, h)
 
-  pub number_read : (code : ℕ) (w : Width) (order : Order) → payload_of (any_number code w order) e octets ≡ Ok p → number_told order (classes.Raw p) ≡ e.number
+  pub number_read : (code : ℕ) (w : Width) (order : Order) → payload_of (any_number code w order) e octets ≡ Ok p → number_by_order order (classes.Raw p) ≡ e.number
   number_read code w order h =
       let both = number_held code (bound (bytes_in w) - 1) w order h in
-      ap (λ q. number_told order (classes.Raw q)) both.1 ∙ again order (bytes_in w) e.number (some_bound w both.0)
+      ap (λ q. number_by_order order (classes.Raw q)) both.1 ∙ again order (bytes_in w) e.number (some_bound w both.0)
 
   truth_read : payload_of (fields.Number form_bool widths.One 1 orders.Little) e octets ≡ Ok p → cond (nat_lt 0 (number p)) 1 0 ≡ e.number
   truth_read h =
@@ -156,7 +156,7 @@ module _ (e : Entry) (octets p : List ℕ) (held : IsEntry e) where
   referred_is size h = (passed_held size e octets p h).is
 
   -- payloads of one size
-  any_read : (own : Fields) (f n : ℕ) (list : List ℕ) (bare : Entry) → StandsAt bare list p → SpellsAny own → payload_of own e octets ≡ Ok p → IsRead own octets e list (told_by f own (classes.Raw p) n bare)
+  any_read : (own : Fields) (f n : ℕ) (list : List ℕ) (bare : Entry) → StandsAt bare list p → EncodesAny own → payload_of own e octets ≡ Ok p → IsRead own octets e list (with_payload_value f own (classes.Raw p) n bare)
   any_read (fields.Number code w most order) f n list bare at any h = (refl, number_read code w order (ap (λ m. payload_of (fields.Number code w m order) e octets) (sym any) ∙ h))
   any_read (fields.Shorts code second_first) f n list bare at any h =
       let both = only_held (nat_lt e.number 65536 && nat_lt e.second 65536) BadNumber _ p (content_ok (fields.Shorts code second_first) e octets p h) in
@@ -172,10 +172,10 @@ module _ (e : Entry) (octets p : List ℕ) (held : IsEntry e) where
 
   -- in a list, where the payload stands
   module _ (f n : ℕ) (list : List ℕ) (bare : Entry) (at : StandsAt bare list p) where
-    exact_read : (own : Fields) → SpellsAny own → is_sized own ≡ true → payload_of own e octets ≡ Ok p → IsRead own octets e list (told_by f own (classes.Raw (take (size_in own) p)) n bare)
+    exact_read : (own : Fields) → EncodesAny own → is_sized own ≡ true → payload_of own e octets ≡ Ok p → IsRead own octets e list (with_payload_value f own (classes.Raw (take (size_in own) p)) n bare)
     exact_read own any sized h =
         let size = written_size e octets p held.octets own sized h in
-        subst (λ q. IsRead own octets e list (told_by f own (classes.Raw q) n bare)) (sym (take_all (size_in own) p (omega (arith, size)))) (any_read own f n list bare at any h)
+        subst (λ q. IsRead own octets e list (with_payload_value f own (classes.Raw q) n bare)) (sym (take_all (size_in own) p (omega (arith, size)))) (any_read own f n list bare at any h)
 
     -- bytes at the start
     front_is : (m : ℕ) → length p ≡ m → take m (drop bare.offset list) ≡ p
@@ -198,9 +198,9 @@ module _ (e : Entry) (octets p : List ℕ) (held : IsEntry e) where
     class_read (forms.Struct layout) names a h =
         let m = size_of (layout_extent layout) in
         let size : length p ≡ m = written_size e octets p held.octets (struct_fields layout) (struct_sized layout).0 h ∙ tied (forms.Struct layout) names in
-        let told = ap (λ q. with_struct layout q bare) (take_all m p (omega (arith, size))) ∙ struct_told f n layout p bare size (omega (arith, at.size)) in
+        let stated = ap (λ q. with_struct layout q bare) (take_all m p (omega (arith, size))) ∙ struct_taken f n layout p bare size (omega (arith, at.size)) in
         let there : StandsAt (record bare { length = m }) list p = record { size = sym size; within = at.within; short = at.short; is = at.is } in
-        subst (IsRead (struct_fields layout) octets e list) (sym told) (any_read (struct_fields layout) f n list (record bare { length = m }) there (struct_sized layout).1 h)
+        subst (IsRead (struct_fields layout) octets e list) (sym stated) (any_read (struct_fields layout) f n list (record bare { length = m }) there (struct_sized layout).1 h)
     class_read forms.Limits names a h =
         let (q, right, is) = limits_held (passed (Some 48) e octets) p (content_ok fields.Limits e octets p h) in
         (refl, front_is 48 (written_size e octets p held.octets fields.Limits refl h) ∙ is ∙ ap (λ t. written (meant classes.Limits t)) (passed_held (Some 48) e octets q right).is)

@@ -1,4 +1,4 @@
--- What is read of the elements that entries spell.
+-- What is read of the elements that entries encode to.
 use Rattle.std.proofs.Common.{◌≡◌, ℕ, ◌+◌, ◌-◌, ◌*◌, ◌/◌, ◌%◌, ◌<◌, ◌≤◌, ◌==◌, true, false, cond, min, List, [], ◌∷◌, ◌++◌, length, take, drop, Ok, refl, sym, ap, ap₂, subst, ◌∙◌, arith, take_at, drop-drop}
 use Rattle.std.specs.List.{AllZip, AllByRecursion, filter}
 use Rattle.std.proofs.lemmas.Bool.{eq-eqb}
@@ -30,14 +30,14 @@ use Rattle.link_entries.specs.declared.fields.Fields.{Fields}
 use Rattle.link_entries.specs.declared.fields.Fields.TheVariants as fields
 use Rattle.link_entries.specs.Fields.{array_number, ip_address, fields_at}
 use Rattle.link_entries.specs.Payload.{payload_of, field_of}
-use Rattle.link_entries.specs.Spelled.{elements_of}
+use Rattle.link_entries.specs.Encoded.{elements_of}
 use Rattle.link_entries.specs.Agreement.{IsEntry, SameContent, IsSame, element_fields, SameInner}
 use Rattle.link_entries.proofs.RowForms.{is_list, with_kind, field_kind}
-use Rattle.link_entries.proofs.Spellings.{frame_low}
+use Rattle.link_entries.proofs.Encodings.{frame_low}
 use Rattle.link_entries.proofs.BackValues.{StandsAt}
 use Rattle.link_entries.proofs.BackElements.{bytes_of_item}
 use Rattle.link_entries.proofs.Located.{Located, located_in, Suffix, suffix_payload, suffix_rest}
-use Rattle.link_entries.proofs.WrittenLists.{same_spells, form_held, framed_ok}
+use Rattle.link_entries.proofs.WrittenLists.{same_encodings, form_held, framed_ok}
 use Rattle.link_entries.proofs.WrittenDecodes.{array_size, numbers_length}
 use Rattle.link_entries.proofs.WrittenParts.{field_held, field_low, goes}
 use Rattle.link_entries.proofs.AgreeClasses.{number_read, signed_read, address_is, address_read, same_content, same_of, single_read}
@@ -134,7 +134,7 @@ module _ (table : Table) (n k at : ℕ) (octets list : List ℕ) (few : n ≤ 16
   pub addresses_same : (m i j : ℕ) (es : List Entry) (s : List ℕ) (items : List Item) (u : List ℕ) → AreBelow es → AllByRecursion IsEntry es → elements_of table (fields.Addresses n) k octets i es ≡ Ok s
       → Walks m s items u → u ≡ [] → AllZip (ElementAs table (fields.Addresses n) k octets list) es (indexed (λ i x. address_entry k i (at + (x.0 + 4)) (bytes_of_item x)) j (filter (is_address n) items))
   addresses_same m i j [] s [] u deep held h walks last = tt
-  addresses_same m i j [] s (x ∷ items) u deep held h walks last = absurd (no_first s x.1 walks.1.0 (sym (same_spells [] s h)) walks.1.1)
+  addresses_same m i j [] s (x ∷ items) u deep held h walks last = absurd (no_first s x.1 walks.1.0 (sym (same_encodings [] s h)) walks.1.1)
   addresses_same m i j (e ∷ es) s [] u deep held h walks last =
       let one = goes table (fields.Addresses n) k octets i e es s (ap (λ n. n == 0) deep.0) h in
       let (p, payload, text) = framed_ok i (payload_of (ip_address n) e octets) one.here one.content in
@@ -206,7 +206,7 @@ module _ (table : Table) (formed : is_table table ≡ true) (single : (j : ℕ) 
       → elements_of table (fields.List flag) k octets i es ≡ Ok s → Walks (length p) s items t → t ≡ [] → Suffix p s → AllZip (λ x r. IsElement table k (at + (x.0 + 4)) x.1 r) items rs
       → AllZip (ElementAs table (fields.List flag) k octets list) es rs
   nested_same at p few here i [] s [] t [] deep held h walks last suffix each = tt
-  nested_same at p few here i [] s (x ∷ items) t rs deep held h walks last suffix each = absurd (no_first s x.1 walks.1.0 (sym (same_spells [] s h)) walks.1.1)
+  nested_same at p few here i [] s (x ∷ items) t rs deep held h walks last suffix each = absurd (no_first s x.1 walks.1.0 (sym (same_encodings [] s h)) walks.1.1)
   nested_same at p few here i (e ∷ es) s [] t rs deep held h walks last suffix each =
       let one = goes table (fields.List flag) k octets i e es s (ap (λ n. n == 0) deep.0) h in
       let (q, payload, text) = framed_ok (field_of (own_of e) e.inner e) (payload_of (own_of e) (with_kind e e.inner) octets) one.here one.content in

@@ -18,24 +18,24 @@ use Rattle.link_entries.specs.Entry.{blank}
 use Rattle.link_entries.specs.Flat.{Elements, head_entry, IsGroup, Flat}
 use Rattle.link_entries.proofs.OneContent.{value_at, fields_by, entry_read}
 use Rattle.link_entries.proofs.EntryFields.{keeps_filled, AreBelow}
-use Rattle.link_entries.proofs.Shapes.{ElementsBy, elements_told}
+use Rattle.link_entries.proofs.Shapes.{ElementsBy, elements_by_form}
 use Rattle.link_entries.specs.declared.fields.Fields.{Fields}
 use Rattle.link_entries.specs.declared.fields.Fields.TheVariants as fields
 use Rattle.link_entries.specs.Fields.{row_fields, fields_in, fields_at}
 use Rattle.link_entries.specs.Payload.{field_of}
 use Rattle.link_entries.specs.Agreement.{IsEntry, IsSame, element_fields, SameInner, Agrees}
-use Rattle.link_entries.proofs.RowForms.{is_list, value_no_list, RowTold, NoRow, OneValue, Array, AddressList, NestedList, row_says, element_no_list}
+use Rattle.link_entries.proofs.RowForms.{is_list, value_no_list, RowCase, NoRow, OneValue, Array, AddressList, NestedList, row_says, element_no_list}
 use Rattle.link_entries.proofs.BackValues.{StandsAt}
 use Rattle.link_entries.proofs.BackSingles.{none_below}
 use Rattle.link_entries.proofs.Located.{Located, suffix_whole, Suffix, suffix_payload, suffix_rest}
-use Rattle.link_entries.proofs.WrittenLists.{form_held, if_held, same_spells, before_ok}
+use Rattle.link_entries.proofs.WrittenLists.{form_held, if_held, same_encodings, before_ok}
 use Rattle.link_entries.proofs.WrittenParts.{Parts, single_payload, list_payload, field_held, parts}
 use Rattle.link_entries.proofs.WrittenParts as written_fields
 use Rattle.link_entries.proofs.AgreeClasses.{IsRead, same_of, single_read, list_read}
 use Rattle.link_entries.proofs.AgreeElements.{ElementAs, array_same, addresses_same, nested_same, first_is, no_first, not_empty}
 use Rattle.std.proofs.lemmas.Bool.{eqb-true, eq-eqb}
 use Rattle.link_entries.specs.declared.misfit.Misfit.TheVariants.{BadElement}
-use Rattle.link_entries.specs.Spelled.{attribute_of, entry_of, entries_of, begins_well, spelled_by}
+use Rattle.link_entries.specs.Encoded.{attribute_of, entry_of, entries_of, begins_well, encoded_by}
 use Rattle.link_entries.proofs.Groups.{joined}
 
 module _ (table : Table) (formed : is_table table ≡ true) (octets : List ℕ) (e : Entry) (es : List Entry) (s : List ℕ) (held : IsEntry e) (w : Parts IsEntry table octets e es s) where
@@ -80,8 +80,8 @@ module _ (table : Table) (formed : is_table table ≡ true) (octets : List ℕ) 
     named : form_of content ≡ form_at table k
     named = has.form ∙ ap (form_at table) kind
 
-    told : (o : Option Shape) (form : Option Form) → class_at table k ≡ o → form_at table k ≡ form → ElementsBy table k (x.0 + 4) o p form below
-    told = elements_told table x.1 content has (x.0 + 4) below elements k p kind bytes
+    stated : (o : Option Shape) (form : Option Form) → class_at table k ≡ o → form_at table k ≡ form → ElementsBy table k (x.0 + 4) o p form below
+    stated = elements_by_form table x.1 content has (x.0 + 4) below elements k p kind bytes
 
     -- that entry, and those of its elements
     pub record GroupAs : Type 0 where
@@ -108,21 +108,21 @@ module _ (table : Table) (formed : is_table table ≡ true) (octets : List ℕ) 
         group_of (subst (λ o. IsRead (fields_in o) octets e list (fields_by f o (value_at (class_at table k) p) (length below) bare)) (sym is) (list_read form octets list e f (length below) (value_at (class_at table k) p) bare (ap is_list looked ∙ listed)))
         (subst (λ o. AllZip (ElementAs (elements_at table k) o k octets list) w.cut.below below) (sym (ap fields_in is ∙ looked)) all)
 
-    by_row : RowTold table k → GroupAs
+    by_row : RowCase table k → GroupAs
     by_row (NoRow form_is class) = single (ap (λ o. is_list (fields_in o)) form_is)
     by_row (OneValue form names form_is class one low) = single (ap (λ o. is_list (fields_in o)) form_is ∙ value_no_list (row_fields form) one)
     by_row (Array a form_is class low) =
         let row = fields.Numbers a in
-        let is = told (Some (One (Many (size_in a)))) (Some (forms.Numbers a)) class form_is in
+        let is = stated (Some (One (Many (size_in a)))) (Some (forms.Numbers a)) class form_is in
         let all = array_same (elements_at table k) a k (x.0 + 4) octets list w.cut.below p w.cut.deep w.cut.held (list_payload IsEntry table octets e es s w row (ap fields_in form_is) refl) in
         list_of (forms.Numbers a) row form_is refl refl (subst (λ l. AllZip (ElementAs (elements_at table k) row k octets list) w.cut.below l) (sym is) all)
     by_row (AddressList n form_is class few low) =
-        let (items, walk, is) = told (Some (Addresses n)) (Some (forms.Addresses n)) class form_is in
+        let (items, walk, is) = stated (Some (Addresses n)) (Some (forms.Addresses n)) class form_is in
         let all = addresses_same (elements_at table k) n k (x.0 + 4) octets list few (length p) 0 0 w.cut.below p items walk.rest w.cut.deep w.cut.held (list_payload IsEntry table octets e es s w (fields.Addresses n) (ap fields_in form_is) refl)
         walk.walks walk.end in
         list_of (forms.Addresses n) (fields.Addresses n) form_is refl refl (subst (λ l. AllZip (ElementAs (elements_at table k) (fields.Addresses n) k octets list) w.cut.below l) (sym is) all)
     by_row (NestedList flagged rows form_is class low) =
-        let (items, walk, each) = told (Some (Nested flagged rows)) (Some (forms.List flagged)) class form_is in
+        let (items, walk, each) = stated (Some (Nested flagged rows)) (Some (forms.List flagged)) class form_is in
         list_of (forms.List flagged) (fields.List (nested_flag flagged)) form_is refl refl
         (nested_same (elements_at table k) (elements_formed table k formed) (λ j. element_no_list table k j formed) (nested_flag flagged) k octets list (x.0 + 4) p w.short stands 0 w.cut.below p items walk.rest below
         w.cut.deep w.cut.held (list_payload IsEntry table octets e es s w (fields.List (nested_flag flagged)) (ap fields_in form_is) refl) walk.walks walk.end (suffix_whole p) each)
@@ -167,14 +167,14 @@ module _ (table : Table) (formed : is_table table ≡ true) (octets list : List 
   passed_over [] rest t deep h = h
   passed_over (e ∷ below) rest t deep h =
       let both = before_ok (entry_of table octets e (below ++ rest)) (entries_of table octets (below ++ rest)) t h in
-      let none : [] ≡ both.first = same_spells [] both.first (sym (ap (λ n. cond (n == 0) (attribute_of table octets e (below ++ rest)) (Ok [])) deep.0) ∙ both.is_first) in
+      let none : [] ≡ both.first = same_encodings [] both.first (sym (ap (λ n. cond (n == 0) (attribute_of table octets e (below ++ rest)) (Ok [])) deep.0) ∙ both.is_first) in
       let all : both.second ≡ t = sym (both.is ∙ ap (λ u. u ++ both.second) (sym none)) in
       passed_over below rest t deep.1 (both.is_second ∙ ap (λ u. Ok u) all)
 
   rest_agrees : (s : List ℕ) (items : List Item) (u : List ℕ) (groups : List (List Entry)) (es : List Entry) → Walks (length list) s items u → u ≡ [] → Suffix list s → AllZip (IsGroup table) items groups
       → begins_well es ≡ true → AllByRecursion IsEntry es → entries_of table octets es ≡ Ok s → AllZip (Agrees table octets list) es (joined groups)
   rest_agrees s [] u [] [] walks last suffix each begins held h = tt
-  rest_agrees s (x ∷ items) u (g ∷ groups) [] walks last suffix each begins held h = absurd (no_first s x.1 walks.1.0 (sym (same_spells [] s h)) walks.1.1)
+  rest_agrees s (x ∷ items) u (g ∷ groups) [] walks last suffix each begins held h = absurd (no_first s x.1 walks.1.0 (sym (same_encodings [] s h)) walks.1.1)
   rest_agrees s [] u [] (e ∷ es) walks last suffix each begins held h =
       let both = before_ok (entry_of table octets e es) (entries_of table octets es) s h in
       let own : attribute_of table octets e es ≡ Ok both.first = sym (ap (λ b. cond b (attribute_of table octets e es) (Ok [])) begins) ∙ both.is_first in
@@ -201,7 +201,7 @@ module _ (table : Table) (formed : is_table table ≡ true) (octets list : List 
   rest_agrees s items u groups es walks last suffix each begins held h = absurd each
 
 -- the entries of what was written are those that were written
-pub written_agrees : (table : Table) → is_table table ≡ true → (octets list : List ℕ) (es read : List Entry) → AllByRecursion IsEntry es → spelled_by table octets es ≡ Ok list → Flat table list read → AllZip (Agrees table octets list) es read
+pub written_agrees : (table : Table) → is_table table ≡ true → (octets list : List ℕ) (es read : List Entry) → AllByRecursion IsEntry es → encoded_by table octets es ≡ Ok list → Flat table list read → AllZip (Agrees table octets list) es read
 written_agrees table formed octets list es read held h flat =
     let (well, entries) = if_held (begins_well es) (0, BadElement) (entries_of table octets es) list h in
     subst (λ l. AllZip (Agrees table octets list) es l) (sym flat.joined)

@@ -1,4 +1,4 @@
--- An entry that was read spells what a rewriting writes: every form of a single value.
+-- An entry that was read encodes to what a rewriting writes: every form of a single value.
 use Rattle.std.proofs.Common.{◌≡◌, ℕ, ◌+◌, ◌-◌, ◌<◌, ◌≤◌, ◌==◌, ◌&&◌, Bool, true, false, cond, List, ◌++◌, length, map, take, drop, reverse, Some, None, Ok, Err, refl, sym, ap, ap₂, ◌∙◌, arith, take_all, take-take}
 use Rattle.std.specs.Prelude.{nat_lt, slice_index}
 use Rattle.std.proofs.lemmas.Bool.{eq-eqb, leb-true, le-leb, lt-ltb}
@@ -25,13 +25,13 @@ use Rattle.link_entries.specs.declared.entry.Entry.{Entry}
 use Rattle.link_entries.specs.Entry.{padded}
 use Rattle.link_entries.specs.Content.{with_struct}
 use Rattle.link_entries.specs.Forms.{form_named, form_flags, form_bittiming_const}
-use Rattle.link_entries.proofs.OneContent.{number-named, told_by, fields_by, struct_told}
+use Rattle.link_entries.proofs.OneContent.{number-named, with_payload_value, fields_by, struct_taken}
 use Rattle.link_entries.specs.declared.fields.Fields.{Fields}
 use Rattle.link_entries.specs.declared.fields.Fields.TheVariants as fields
 use Rattle.link_entries.specs.declared.misfit.Misfit.TheVariants.{BadNumber, BadOctets}
 use Rattle.link_entries.specs.Fields.{any_number, role_form, struct_fields, row_fields}
 use Rattle.link_entries.specs.Payload.{only_if, passed, payload_of, rewritten, pair_of}
-use Rattle.link_entries.proofs.RowForms.{is_value, size_in, SpellsAny, struct_sized, tied}
+use Rattle.link_entries.proofs.RowForms.{is_value, size_in, EncodesAny, struct_sized, tied}
 use Rattle.link_entries.proofs.FlagBytes.{flag_back}
 use Rattle.link_entries.proofs.BackValues.{StandsAt, right_form, passes, whole_number, passed_back, at_back, at_below, halves, address_back, padded_back, signed_back, first_below, low2, front_stands}
 
@@ -52,19 +52,19 @@ halves_back w q second_first bytes size =
     ]
 
 -- an entry that was read of any bytes of the size
-any_back : (own : Fields) (f n : ℕ) (e : Entry) (list q : List ℕ) → IsBytes q → StandsAt e list q → SpellsAny own → length q ≡ size_in own → payload_of own (told_by f own (classes.Raw q) n e) list ≡ Ok q
+any_back : (own : Fields) (f n : ℕ) (e : Entry) (list q : List ℕ) → IsBytes q → StandsAt e list q → EncodesAny own → length q ≡ size_in own → payload_of own (with_payload_value f own (classes.Raw q) n e) list ≡ Ok q
 any_back (fields.Number code w most order) f n e list q bytes at any size =
-    let read : ℕ → Entry = λ m. told_by f (fields.Number code w m order) (classes.Raw q) n e in
+    let read : ℕ → Entry = λ m. with_payload_value f (fields.Number code w m order) (classes.Raw q) n e in
     ap (λ m. payload_of (fields.Number code w m order) (read m) list) any ∙ whole_number code w order q (read (bound (bytes_in w) - 1)) list bytes size refl refl
 any_back (fields.Shorts code second_first) f n e list q bytes at any size =
     let (low, high, all) = halves_back 2 q second_first bytes size in
-    passes (fields.Shorts code second_first) (told_by f (fields.Shorts code second_first) (classes.Raw q) n e) list _ q _ BadNumber refl refl
+    passes (fields.Shorts code second_first) (with_payload_value f (fields.Shorts code second_first) (classes.Raw q) n e) list _ q _ BadNumber refl refl
     (ap₂ (λ a b. a && b) (lt-ltb (number_at 2 (cond second_first 2 0) q) 65536 low) (lt-ltb (number_at 2 (cond second_first 0 2) q) 65536 high)) all
 any_back (fields.Words code second_first) f n e list q bytes at any size =
     let (low, high, all) = halves_back 4 q second_first bytes size in
-    passes (fields.Words code second_first) (told_by f (fields.Words code second_first) (classes.Raw q) n e) list _ q _ BadNumber refl refl (lt-ltb (number_at 4 (cond second_first 4 0) q) 4294967296 low) all
+    passes (fields.Words code second_first) (with_payload_value f (fields.Words code second_first) (classes.Raw q) n e) list _ q _ BadNumber refl refl (lt-ltb (number_at 4 (cond second_first 4 0) q) 4294967296 low) all
 any_back (fields.Address code m) f n e list q bytes at any size =
-    address_back code m (told_by f (fields.Address code m) (classes.Raw q) n e) list q refl (at.size ∙ size) size (leb-true m 16 any) refl
+    address_back code m (with_payload_value f (fields.Address code m) (classes.Raw q) n e) list q refl (at.size ∙ size) size (leb-true m 16 any) refl
 any_back fields.BridgeId f n e list q bytes at any size =
     let front = take 2 q in
     let back = take 6 (drop 2 q) in
@@ -73,12 +73,12 @@ any_back fields.BridgeId f n e list q bytes at any size =
     let six : length back ≡ 6 = omega (arith, length-take 6 (drop 2 q), length-drop 2 q, size) in
     let all : front ++ back ≡ q = ap (λ t. front ++ t) (take_all 6 (drop 2 q) (omega (arith, length-drop 2 q, size))) ∙ take-append-drop 2 q in
     let own = reverse (bytes_of 2 (number (reverse front))) ++ take 6 (padded back) in
-    right_form fields.BridgeId (told_by f fields.BridgeId (classes.Raw q) n e) list refl
+    right_form fields.BridgeId (with_payload_value f fields.BridgeId (classes.Raw q) n e) list refl
     ∙ ap₂ (λ a b. cond a (only_if b BadOctets own) (Err BadNumber)) (lt-ltb (number (reverse front)) 65536 low) (eq-eqb e.length 8 (at.size ∙ size))
     ∙ ap Ok (ap₂ (λ a b. a ++ b) (be_back 2 front (bytes-take 2 q bytes) two) (padded_back back 6 six (omega arith)) ∙ all)
 any_back (fields.Passed code (Some m)) f n e list q bytes at any size =
     let own = fields.Passed code (Some m) in
-    let read : Entry = told_by f own (classes.Raw q) n e in
+    let read : Entry = with_payload_value f own (classes.Raw q) n e in
     right_form own read list refl ∙ passed_back (Some m) read list q (record { size = at.size; within = at.within; short = at.short; is = at.is }) (eq-eqb e.length m (at.size ∙ size))
 any_back own f n e list q bytes at any size = absurd cc
 
@@ -92,14 +92,14 @@ limits_front p enough =
 
 module _ (f n : ℕ) (e : Entry) (list p : List ℕ) (bytes : IsBytes p) (at : StandsAt e list p) where
   -- the first bytes of the payload
-  part_back : (own : Fields) (x : Extent) (e' : Entry) → SpellsAny own → length_cause x (length p) ≡ None → size_in own ≡ size_of x → e'.offset ≡ e.offset → e'.length ≡ size_of x
-      → payload_of own (told_by f own (classes.Raw (take (size_of x) p)) n e') list ≡ Ok (take (size_of x) p)
+  part_back : (own : Fields) (x : Extent) (e' : Entry) → EncodesAny own → length_cause x (length p) ≡ None → size_in own ≡ size_of x → e'.offset ≡ e.offset → e'.length ≡ size_of x
+      → payload_of own (with_payload_value f own (classes.Raw (take (size_of x) p)) n e') list ≡ Ok (take (size_of x) p)
   part_back own x e' any ok tied place size =
       let kept = meant_in_range (classes.Octets x) p bytes ok in
       any_back own f n e' list (take (size_of x) p) kept.1 (front_stands e list p (size_of x) at (size_reached x (length p) ok) e' place size) any (kept.0 ∙ sym tied)
 
   -- all bytes
-  exact_back : (own : Fields) → SpellsAny own → length_cause (Exactly (size_in own)) (length p) ≡ None → payload_of own (told_by f own (classes.Raw (take (size_in own) p)) n e) list ≡ Ok (take (size_in own) p)
+  exact_back : (own : Fields) → EncodesAny own → length_cause (Exactly (size_in own)) (length p) ≡ None → payload_of own (with_payload_value f own (classes.Raw (take (size_in own) p)) n e) list ≡ Ok (take (size_in own) p)
   exact_back own any ok = part_back own (Exactly (size_in own)) e any ok refl refl (at.size ∙ exactly (size_in own) (length p) ok)
 
   struct_back : (layout : Layout) (names : List (ℕ × List ℕ)) → length_cause (layout_extent layout) (length p) ≡ None
@@ -109,7 +109,7 @@ module _ (f n : ℕ) (e : Entry) (list p : List ℕ) (bytes : IsBytes p) (at : S
       let q = take (size_of x) p in
       let enough = size_reached x (length p) ok in
       let size : length q ≡ size_of x = (meant_in_range (classes.Octets x) p bytes ok).0 in
-      ap (λ r. payload_of (struct_fields layout) r list) (struct_told f n layout q e size (omega (arith, size, enough, at.size)))
+      ap (λ r. payload_of (struct_fields layout) r list) (struct_taken f n layout q e size (omega (arith, size, enough, at.size)))
       ∙ part_back (struct_fields layout) x (record e { length = size_of x }) (struct_sized layout).1 ok (tied (forms.Struct layout) names) refl refl
 
   -- a little-endian number

@@ -1,4 +1,4 @@
--- Elements that were read spell what a rewriting writes.
+-- Elements that were read encode to what a rewriting writes.
 use Rattle.std.proofs.Common.{◌≡◌, ℕ, zero, suc, ◌+◌, ◌*◌, ◌/◌, ◌%◌, ◌<◌, ◌≤◌, ◌==◌, ◌&&◌, true, false, cond, List, [], ◌∷◌, ◌++◌, length, drop, map, inl, inr, Ok, Err, refl, sym, ap, ap₂, subst, ◌∙◌, arith, drop-drop, ◌-◌, Option, Some, None, Result}
 use Rattle.std.specs.List.{AllZip, AllByRecursion, filter}
 use Rattle.std.proofs.lemmas.Bool.{cases_Bool, eqb-true, eq-eqb}
@@ -10,7 +10,7 @@ use Rattle.link_base.specs.declared.rows.form.ArrayOf.TheVariants.{I32}
 use Rattle.link_base.specs.Forms.{width_in, size_in}
 use Rattle.link_base.specs.Number.{IsBytes, bytes_of, bound}
 use Rattle.link_base.specs.Layout.{numbers_at, numbers_of, octets_of}
-use Rattle.link_base.specs.Frame.{Frame, Frames, frame_bytes, spelled, kind_of}
+use Rattle.link_base.specs.Frame.{Frame, Frames, frame_bytes, bytes_of_frames, kind_of}
 use Rattle.link_base.specs.Wire.{whole, Reading, FrameGives, Wire}
 use Rattle.link_base.specs.Table.{Table, addresses_from, of_length, PayloadGives, Rows, Leaf, AttrValue, class_at, LeafGives, leaf_by, GivesBy, Gives, written_kind, written_payload, written_list}
 use Rattle.link_base.specs.Buffer.{kind_field_of, payload_of as payload_after}
@@ -25,7 +25,7 @@ use Rattle.link_entries.specs.declared.fields.Fields.TheVariants as fields
 use Rattle.link_entries.specs.declared.misfit.Misfit.TheVariants.{BadElement}
 use Rattle.link_entries.specs.Fields.{array_number, ip_address, fields_at}
 use Rattle.link_entries.specs.Payload.{form_in, payload_of, field_of}
-use Rattle.link_entries.specs.Spelled.{alone, before, framed, element_content, element_of, elements_of, begins_well}
+use Rattle.link_entries.specs.Encoded.{alone, before, framed, element_content, element_of, elements_of, begins_well}
 use Rattle.link_entries.proofs.BackValues.{number_back, signed_back, at_back, at_below, address_back, StandsAt}
 use Rattle.link_base.specs.declared.wire.buffer.NlaBuffer.{NlaBuffer}
 use Rattle.link_base.specs.declared.wire.fault.DecodeFault.{DecodeFault}
@@ -64,15 +64,15 @@ array_back I32 e octets x form is low = signed_back e octets x low form is ∙ a
 array_back a e octets x form is low = number_back form_unsigned (width_in a) e octets form (omega (arith, is, low)) ∙ ap (λ y. Ok (bytes_of (size_in a) y)) is
 
 module _ (table : Table) (a : ArrayOf) (k at : ℕ) (octets : List ℕ) (rest : List Entry) (end : begins_well rest ≡ true) where
-  numbers_spelled : (i j : ℕ) (xs : List ℕ) → AllByRecursion (λ x. x < bound (size_in a)) xs
+  numbers_encoded : (i j : ℕ) (xs : List ℕ) → AllByRecursion (λ x. x < bound (size_in a)) xs
       → elements_of table (fields.Numbers a) k octets i (indexed (number_entry k at a) j xs ++ rest) ≡ Ok (octets_of (size_in a) xs)
-  numbers_spelled i j [] h = elements_end table (fields.Numbers a) k octets i rest end
-  numbers_spelled i j (x ∷ xs) h =
+  numbers_encoded i j [] h = elements_end table (fields.Numbers a) k octets i rest end
+  numbers_encoded i j (x ∷ xs) h =
       let e = number_entry k at a j x in
       let here = array_back a e octets x refl refl h.0 in
       elements_next table (fields.Numbers a) k i e (indexed (number_entry k at a) (j + 1) xs ++ rest) octets (bytes_of (size_in a) x) (octets_of (size_in a) xs) refl
       (element_right table (fields.Numbers a) k i e octets (bytes_of (size_in a) x) refl refl here)
-      (numbers_spelled (i + 1) (j + 1) xs h.1)
+      (numbers_encoded (i + 1) (j + 1) xs h.1)
 
 -- consecutive numbers are in range, and their bytes are the payload
 module _ (width : ℕ) (p : List ℕ) (bytes : IsBytes p) where
@@ -91,13 +91,13 @@ whole_numbers : (a : ArrayOf) (n : ℕ) → n % size_in a ≡ 0 → n / size_in 
 whole_numbers I32 n h = omega (arith, h)
 whole_numbers a n h = omega (arith, h)
 
-pub array_spelled : (table : Table) (a : ArrayOf) (k at : ℕ) (p octets : List ℕ) (rest : List Entry) → IsBytes p → begins_well rest ≡ true → length p % size_in a ≡ 0
+pub array_encoded : (table : Table) (a : ArrayOf) (k at : ℕ) (p octets : List ℕ) (rest : List Entry) → IsBytes p → begins_well rest ≡ true → length p % size_in a ≡ 0
     → elements_of table (fields.Numbers a) k octets 0 (number_entries k at a p ++ rest) ≡ Ok p
-array_spelled table a k at p octets rest bytes end even =
+array_encoded table a k at p octets rest bytes end even =
     let width = size_in a in
     let count = length p / width in
     let all : 0 + count * width ≡ length p = omega (arith, whole_numbers a (length p) even) in
-    numbers_spelled table a k at octets rest end 0 0 (numbers_of width p) (numbers_below width p bytes count 0 (omega (arith, all)))
+    numbers_encoded table a k at octets rest end 0 0 (numbers_of width p) (numbers_below width p bytes count 0 (omega (arith, all)))
     ∙ ap Ok (numbers_bytes width p bytes count 0 all)
 
 -- ---- addresses
@@ -111,23 +111,23 @@ module _ (table : Table) (n k at : ℕ) (octets : List ℕ) (rest : List Entry) 
   abbrev entry_at : ℕ → Item → Entry
   entry_at i x = address_entry k i (at + (x.0 + 4)) (bytes_of_item x)
 
-  all_spelled : (i j : ℕ) (items : List Item) → AllByRecursion (λ x. (length (bytes_of_item x) == n) ≡ true) items
-      → elements_of table (fields.Addresses n) k octets i (indexed entry_at j items ++ rest) ≡ Ok (spelled (addresses_from i (map bytes_of_item items)))
-  all_spelled i j [] h = elements_end table (fields.Addresses n) k octets i rest end
-  all_spelled i j (x ∷ items) h =
+  all_encoded : (i j : ℕ) (items : List Item) → AllByRecursion (λ x. (length (bytes_of_item x) == n) ≡ true) items
+      → elements_of table (fields.Addresses n) k octets i (indexed entry_at j items ++ rest) ≡ Ok (bytes_of_frames (addresses_from i (map bytes_of_item items)))
+  all_encoded i j [] h = elements_end table (fields.Addresses n) k octets i rest end
+  all_encoded i j (x ∷ items) h =
       let p = bytes_of_item x in
       let e = entry_at j x in
       let size : length p ≡ n = eqb-true (length p) n h.0 in
       let form : e.form ≡ cond (n == 4) form_ipv4 form_ipv6 = ap (λ m. cond (m == 4) form_ipv4 form_ipv6) size in
       let here : payload_of (ip_address n) e octets ≡ Ok p = address_back (cond (n == 4) form_ipv4 form_ipv6) n e octets p form size size few refl in
       let s = frame_bytes (whole i p) in
-      elements_next table (fields.Addresses n) k i e (indexed entry_at (j + 1) items ++ rest) octets s (spelled (addresses_from (i + 1) (map bytes_of_item items))) refl
+      elements_next table (fields.Addresses n) k i e (indexed entry_at (j + 1) items ++ rest) octets s (bytes_of_frames (addresses_from (i + 1) (map bytes_of_item items))) refl
       (element_right table (fields.Addresses n) k i e octets s refl refl (ap (framed i) here))
-      (all_spelled (i + 1) (j + 1) items h.1)
+      (all_encoded (i + 1) (j + 1) items h.1)
 
-  pub addresses_spelled : (items : List Item)
-      → elements_of table (fields.Addresses n) k octets 0 (indexed entry_at 0 (filter (is_address n) items) ++ rest) ≡ Ok (spelled (addresses_from 0 (of_length n (map bytes_of_item items))))
-  addresses_spelled items = all_spelled 0 0 (filter (is_address n) items) (all_right items) ∙ ap (λ a. Ok (spelled (addresses_from 0 a))) (sym (same items))
+  pub addresses_encoded : (items : List Item)
+      → elements_of table (fields.Addresses n) k octets 0 (indexed entry_at 0 (filter (is_address n) items) ++ rest) ≡ Ok (bytes_of_frames (addresses_from 0 (of_length n (map bytes_of_item items))))
+  addresses_encoded items = all_encoded 0 0 (filter (is_address n) items) (all_right items) ∙ ap (λ a. Ok (bytes_of_frames (addresses_from 0 a))) (sym (same items))
     where
       all_right : (items : List Item) → AllByRecursion (λ x. (length (bytes_of_item x) == n) ≡ true) (filter (is_address n) items)
       all_right [] = tt
@@ -206,10 +206,10 @@ module _ (table : Table) (formed : is_table table ≡ true) (single : (j : ℕ) 
 
   module _ (at : ℕ) (p : List ℕ) (rest : List Entry) (end : begins_well rest ≡ true) (few : length p ≤ 65531) (all_bytes : IsBytes p) (here : Located list at p) where
     -- all elements
-    pub nested_spelled : (i : ℕ) (s : List ℕ) (items : List Item) (t : List ℕ) (es : List Entry) (vs : List AttrValue) → Walks (length p) s items t → t ≡ [] → Suffix p s
+    pub nested_encoded : (i : ℕ) (s : List ℕ) (items : List Item) (t : List ℕ) (es : List Entry) (vs : List AttrValue) → Walks (length p) s items t → t ≡ [] → Suffix p s
         → AllZip (λ x e. IsElement table k (at + (x.0 + 4)) x.1 e) items es → Wire (Gives table) s vs → elements_of table (fields.List flag) k list i (es ++ rest) ≡ Ok (written_list vs)
-    nested_spelled i s [] t [] vs walks last suffix each wire = elements_end table (fields.List flag) k list i rest end ∙ ap (λ l. Ok (written_list l)) (sym (none_values (Gives table) s vs (walks ∙ last) wire))
-    nested_spelled i s (x ∷ items) t (e ∷ es) vs walks last suffix each wire =
+    nested_encoded i s [] t [] vs walks last suffix each wire = elements_end table (fields.List flag) k list i rest end ∙ ap (λ l. Ok (written_list l)) (sym (none_values (Gives table) s vs (walks ∙ last) wire))
+    nested_encoded i s (x ∷ items) t (e ∷ es) vs walks last suffix each wire =
         let u = walks.1.0 in
         let split = walks.1.1 in
         let b = x.1 in
@@ -226,6 +226,6 @@ module _ (table : Table) (formed : is_table table ≡ true) (single : (j : ℕ) 
         let one = element_back i (at + (x.0 + 4)) b e first.value bytes (omega (arith, inside.within, few)) stands each.0 first.given in
         elements_next table (fields.List flag) k i e (es ++ rest) list text (written_list first.others) deep
         (element_right table (fields.List flag) k i e list text deep kind one)
-        (nested_spelled (i + 1) u items t es first.others walks.1.2 last (suffix_rest p s b u suffix split) each.1 first.wire)
+        (nested_encoded (i + 1) u items t es first.others walks.1.2 last (suffix_rest p s b u suffix split) each.1 first.wire)
         ∙ ap (λ l. Ok (written_list l)) (sym first.is)
-    nested_spelled i s items t es vs walks last suffix each wire = absurd each
+    nested_encoded i s items t es vs walks last suffix each wire = absurd each

@@ -1,4 +1,4 @@
--- Attributes and lists that were read spell what a rewriting writes.
+-- Attributes and lists that were read encode to what a rewriting writes.
 use Rattle.std.proofs.Common.{◌≡◌, ℕ, ◌+◌, ◌≤◌, true, false, List, [], ◌++◌, length, map, Option, Some, Ok, Err, refl, sym, ap, ap₂, subst, ◌∙◌, arith, ◌==◌, cond, ◌∷◌}
 use Rattle.std.proofs.lemmas.List.{append-nil}
 use Rattle.link_base.specs.declared.views.content.Content.{Content as Borrowed}
@@ -7,7 +7,7 @@ use Rattle.link_base.specs.declared.rows.form.Form.TheVariants as forms
 use Rattle.link_base.specs.Number.{IsBytes}
 use Rattle.link_base.specs.Class.{Many}
 use Rattle.link_base.specs.Forms.{size_in}
-use Rattle.link_base.specs.Frame.{kind_of, frame_bytes, spelled}
+use Rattle.link_base.specs.Frame.{kind_of, frame_bytes, bytes_of_frames}
 use Rattle.link_base.specs.Wire.{whole, Wire}
 use Rattle.link_base.specs.Table.{Shape, One, Nested, Addresses, Inner, Listed, Table, AttrValue, Case, class_at, form_at, nested_flag, GivesBy, Gives, addresses_from, of_length, written_kind, written_payload, written_frame, written_list, Fits, Rewriting}
 use Rattle.link_base.specs.Lift.{lift}
@@ -23,17 +23,17 @@ use Rattle.link_entries.specs.declared.entry.Entry.{Entry}
 use Rattle.link_entries.specs.Entry.{blank}
 use Rattle.link_entries.specs.Flat.{Elements, head_entry, IsGroup, Flat}
 use Rattle.link_entries.proofs.EntryFields.{keeps_filled, AreBelow, elements_below}
-use Rattle.link_entries.proofs.Shapes.{ElementsBy, elements_told}
+use Rattle.link_entries.proofs.Shapes.{ElementsBy, elements_by_form}
 use Rattle.link_entries.specs.declared.fields.Fields.{Fields}
 use Rattle.link_entries.specs.declared.fields.Fields.TheVariants as fields
 use Rattle.link_entries.specs.Fields.{row_fields, fields_in, fields_at}
 use Rattle.link_entries.specs.Payload.{payload_of, field_of}
-use Rattle.link_entries.specs.Spelled.{alone, before, fitted, elements_of, attribute_of, begins_well, entries_of, spelled_by}
-use Rattle.link_entries.proofs.RowForms.{is_list, value_no_list, with_kind, RowTold, NoRow, OneValue, Array, AddressList, NestedList, row_says, element_no_list}
-use Rattle.link_entries.proofs.Spellings.{fitted_all}
+use Rattle.link_entries.specs.Encoded.{alone, before, fitted, elements_of, attribute_of, begins_well, entries_of, encoded_by}
+use Rattle.link_entries.proofs.RowForms.{is_list, value_no_list, with_kind, RowCase, NoRow, OneValue, Array, AddressList, NestedList, row_says, element_no_list}
+use Rattle.link_entries.proofs.Encodings.{fitted_all}
 use Rattle.link_entries.proofs.BackValues.{StandsAt}
 use Rattle.link_entries.proofs.BackSingles.{none_below, value_read, list_back, single_back}
-use Rattle.link_entries.proofs.BackElements.{elements_end, array_spelled, addresses_spelled, payloads_read, wire_lifted, nested_spelled, none_values}
+use Rattle.link_entries.proofs.BackElements.{elements_end, array_encoded, addresses_encoded, payloads_read, wire_lifted, nested_encoded, none_values}
 use Rattle.link_entries.proofs.Located.{Located, suffix_whole, Suffix, suffix_payload, suffix_rest}
 use Rattle.std.specs.List.{AllZip, AllByRecursion}
 use Rattle.std.proofs.lemmas.Bool.{eq-eqb}
@@ -81,8 +81,8 @@ module _ (table : Table) (formed : is_table table ≡ true) (list : List ℕ) (x
   head_kind : head.kind ≡ k
   head_kind = (keeps_filled f content (length es) bare).kind
 
-  told : (o : Option Shape) (form : Option Form) → class_at table k ≡ o → form_at table k ≡ form → ElementsBy table k (x.0 + 4) o p form es
-  told = elements_told table x.1 content has (x.0 + 4) es below k p refl refl
+  stated : (o : Option Shape) (form : Option Form) → class_at table k ≡ o → form_at table k ≡ form → ElementsBy table k (x.0 + 4) o p form es
+  stated = elements_by_form table x.1 content has (x.0 + 4) es below k p refl refl
 
   -- no list
   single : is_list (fields_at table k) ≡ false → Goal
@@ -99,38 +99,38 @@ module _ (table : Table) (formed : is_table table ≡ true) (list : List ℕ) (x
   listed own t w nothing looked field elements is value =
       attribute_parts table own k list head (es ++ rest) [] t v looked head_kind (field ∙ ap written_kind (sym value)) nothing elements (is ∙ ap written_payload (sym value)) fits
 
-  by_row : RowTold table k → Goal
+  by_row : RowCase table k → Goal
   by_row (NoRow named class) = single (ap (λ o. is_list (fields_in o)) named)
   by_row (OneValue form names named class one low) = single (ap (λ o. is_list (fields_in o)) named ∙ value_no_list (row_fields form) one)
   by_row (Array a named class low) =
       let c = Many (size_in a) in
       let own = fields.Numbers a in
       let was = value_read c k p v (subst (λ o. GivesBy o f p (Ok v)) class given) in
-      let is = told (Some (One c)) (Some (forms.Numbers a)) class named in
+      let is = stated (Some (One c)) (Some (forms.Numbers a)) class named in
       let none : k ≡ k + 0 = omega arith in
       listed own p (Case k _) (list_back table x.1 content has (length es) bare (forms.Numbers a) list named refl) (ap fields_in named) none
-      (ap (λ l. elements_of (elements_at table k) own k list 0 (l ++ rest)) is ∙ array_spelled (elements_at table k) a k (x.0 + 4) p list rest bytes end (multiple (size_in a) (length p) was.accepted))
+      (ap (λ l. elements_of (elements_at table k) own k list 0 (l ++ rest)) is ∙ array_encoded (elements_at table k) a k (x.0 + 4) p list rest bytes end (multiple (size_in a) (length p) was.accepted))
       refl was.value
   by_row (AddressList n named class few low) = by_given (subst (λ o. GivesBy o f p (Ok v)) class given) where
     by_given : GivesBy (Some (Addresses n)) f p (Ok v) → Goal
     by_given (Ok vs, wire, value) =
-        let (items, walk, is) = told (Some (Addresses n)) (Some (forms.Addresses n)) class named in
+        let (items, walk, is) = stated (Some (Addresses n)) (Some (forms.Addresses n)) class named in
         let payloads = payloads_read (length p) p items walk.rest vs walk.walks walk.end wire in
         let w = Case k (Listed (of_length n vs)) in
         let none : k ≡ k + 0 = omega arith in
-        listed (fields.Addresses n) (spelled (addresses_from 0 (of_length n vs))) w (list_back table x.1 content has (length es) bare (forms.Addresses n) list named refl) (ap fields_in named) none
-        (ap (λ l. elements_of (elements_at table k) (fields.Addresses n) k list 0 (l ++ rest)) is ∙ addresses_spelled (elements_at table k) n k (x.0 + 4) list rest end few items
-        ∙ ap (λ a. Ok (spelled (addresses_from 0 (of_length n a)))) (sym payloads))
+        listed (fields.Addresses n) (bytes_of_frames (addresses_from 0 (of_length n vs))) w (list_back table x.1 content has (length es) bare (forms.Addresses n) list named refl) (ap fields_in named) none
+        (ap (λ l. elements_of (elements_at table k) (fields.Addresses n) k list 0 (l ++ rest)) is ∙ addresses_encoded (elements_at table k) n k (x.0 + 4) list rest end few items
+        ∙ ap (λ a. Ok (bytes_of_frames (addresses_from 0 (of_length n a)))) (sym payloads))
         refl (same_ok v w value)
     by_given (Err y, wire, value) = absurd cc
   by_row (NestedList flagged rows named class low) = by_given (subst (λ o. GivesBy o f p (Ok v)) class given) where
     by_given : GivesBy (Some (Nested flagged rows)) f p (Ok v) → Goal
     by_given (Ok vs, wire, value) =
-        let (items, walk, each) = told (Some (Nested flagged rows)) (Some (forms.List flagged)) class named in
+        let (items, walk, each) = stated (Some (Nested flagged rows)) (Some (forms.List flagged)) class named in
         let flag = nested_flag flagged in
         let w = Case k (Inner flagged vs) in
         listed (fields.List flag) (written_list (map lift vs)) w (list_back table x.1 content has (length es) bare (forms.List flagged) list named refl) (ap fields_in named) refl
-        (nested_spelled (elements_at table k) (elements_formed table k formed) (λ j. element_no_list table k j formed) flag k list (x.0 + 4) p rest end short bytes stands 0 p items walk.rest es (map lift vs)
+        (nested_encoded (elements_at table k) (elements_formed table k formed) (λ j. element_no_list table k j formed) flag k list (x.0 + 4) p rest end short bytes stands 0 p items walk.rest es (map lift vs)
         walk.walks walk.end (suffix_whole p) each (wire_lifted (elements_at table k) rows p vs (ap elements_by class) wire))
         (written_same (map lift vs) vs refl) (same_ok v w value)
     by_given (Err y, wire, value) = absurd cc
@@ -176,9 +176,9 @@ module _ (table : Table) (list : List ℕ) where
       )
   rest_back formed bytes s items u groups vs walks last suffix each wire fit = absurd each
 
--- the entries of a list spell its rewriting
-pub flat_back : (table : Table) → is_table table ≡ true → (list written : List ℕ) (es : List Entry) → IsBytes list → Flat table list es → Rewriting table list written → spelled_by table list es ≡ Ok written
+-- the entries of a list encode to its rewriting
+pub flat_back : (table : Table) → is_table table ≡ true → (list written : List ℕ) (es : List Entry) → IsBytes list → Flat table list es → Rewriting table list written → encoded_by table list es ≡ Ok written
 flat_back table formed list written es bytes flat rewriting =
     let (all, begins) = rest_back table list formed bytes list flat.items flat.walk.rest flat.groups rewriting.values flat.walk.walks flat.walk.end (suffix_whole list) flat.each rewriting.wire rewriting.fit in
-    ap (spelled_by table list) flat.joined
+    ap (encoded_by table list) flat.joined
     ∙ ap (λ b. cond b (entries_of table list (joined flat.groups)) (Err (0, BadElement))) begins ∙ all ∙ ap Ok (sym rewriting.string)

@@ -1,4 +1,4 @@
--- An attribute or an element without elements of its own, which was read, spells what a rewriting writes.
+-- An attribute or an element without elements of its own, which was read, encodes to what a rewriting writes.
 use Rattle.std.proofs.Common.{◌≡◌, ℕ, ◌+◌, ◌-◌, ◌%◌, ◌==◌, ◌&&◌, true, false, cond, List, [], length, Option, Some, None, Ok, Err, refl, sym, ap, ap₂, subst, ◌∙◌, arith}
 use Rattle.std.specs.Prelude.{nat_lt}
 use Rattle.std.proofs.lemmas.Bool.{eq-eqb, lt-ltb}
@@ -85,13 +85,13 @@ module _ (table : Table) (b : NlaBuffer) (content : Borrowed) (has : HasContent 
   pub list_back : (form : Form) (list : List ℕ) → form_at table (kind_of (kind_field_of b)) ≡ Some form → is_list (row_fields form) ≡ true → payload_of (row_fields form) (filled (kind_field_of b) content n bare) list ≡ Ok []
   list_back form list named h = ap (λ e. payload_of (row_fields form) e list) (entry_by (Some form) (class_at table k) named refl) ∙ listed form (value_at (class_at table k) p) list h
 
-  -- the entry of anything else spells its payload
+  -- the entry of anything else encodes to its payload
   module _ (formed : is_table table ≡ true) (list : List ℕ) (bytes : IsBytes (payload_after b)) (at : StandsAt bare list (payload_after b)) (v : AttrValue) (given : Gives table (kind_field_of b) (payload_after b) (Ok v)) where
-    pub record IsSpelled (own : Fields) : Type 0 where
+    pub record IsEncoded (own : Fields) : Type 0 where
       pub payload : payload_of own (with_kind (filled (kind_field_of b) content n bare) (kind_of (kind_field_of b))) list ≡ Ok (written_payload v)
       pub field : field_of own (kind_of (kind_field_of b)) (filled (kind_field_of b) content n bare) ≡ written_kind v
 
-    no_row : form_at table k ≡ None → class_at table k ≡ None → IsSpelled fields.Unknown
+    no_row : form_at table k ≡ None → class_at table k ≡ None → IsEncoded fields.Unknown
     no_row named class =
         let value : v ≡ Other f p = same_ok v (Other f p) (subst (λ o. GivesBy o f p (Ok v)) class given) in
         let full = fields_by f None (value_at None p) n bare in
@@ -104,7 +104,7 @@ module _ (table : Table) (b : NlaBuffer) (content : Borrowed) (has : HasContent 
           field = sum ∙ ap written_kind (sym value);
         }
 
-    value_back : (form : Form) (names : List (ℕ × List ℕ)) → form_at table k ≡ Some form → class_at table k ≡ Some (One (class_by form names)) → is_value (row_fields form) ≡ true → IsSpelled (row_fields form)
+    value_back : (form : Form) (names : List (ℕ × List ℕ)) → form_at table k ≡ Some form → class_at table k ≡ Some (One (class_by form names)) → is_value (row_fields form) ≡ true → IsEncoded (row_fields form)
     value_back form names named class one =
         let own = row_fields form in
         let c = class_by form names in
@@ -118,11 +118,11 @@ module _ (table : Table) (b : NlaBuffer) (content : Borrowed) (has : HasContent 
           field = value_field own k (filled f content n bare) one ∙ none ∙ ap written_kind (sym was.value);
         }
 
-    pub single_back : is_list (fields_at table (kind_of (kind_field_of b))) ≡ false → IsSpelled (fields_at table (kind_of (kind_field_of b)))
+    pub single_back : is_list (fields_at table (kind_of (kind_field_of b))) ≡ false → IsEncoded (fields_at table (kind_of (kind_field_of b)))
     single_back single =
         elim (row_says table k formed) [
-          | NoRow named class ↦ subst (λ o. IsSpelled (fields_in o)) (sym named) (no_row named class)
-          | OneValue form names named class one low ↦ subst (λ o. IsSpelled (fields_in o)) (sym named) (value_back form names named class one)
+          | NoRow named class ↦ subst (λ o. IsEncoded (fields_in o)) (sym named) (no_row named class)
+          | OneValue form names named class one low ↦ subst (λ o. IsEncoded (fields_in o)) (sym named) (value_back form names named class one)
           | Array a named class low ↦ let no : is_list (fields_at table k) ≡ true = ap (λ o. is_list (fields_in o)) named in absurd cc
           | AddressList size named class few low ↦ let no : is_list (fields_at table k) ≡ true = ap (λ o. is_list (fields_in o)) named in absurd cc
           | NestedList flagged rows named class low ↦ let no : is_list (fields_at table k) ≡ true = ap (λ o. is_list (fields_in o)) named in absurd cc

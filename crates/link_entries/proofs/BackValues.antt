@@ -1,4 +1,4 @@
--- An entry that was read spells what a rewriting writes: payloads of one class.
+-- An entry that was read encodes to what a rewriting writes: payloads of one class.
 use Rattle.std.proofs.Common.{◌≡◌, inl, inr, ℕ, suc, ◌+◌, ◌-◌, ◌/◌, ◌%◌, ◌<◌, ◌≤◌, ◌==◌, ◌&&◌, ◌||◌, Bool, true, cond, pos, negsuc, List, [], ◌∷◌, ◌++◌, length, take, drop, replicate, Option, Ok, Err, refl, sym, ap, ap₂, ◌∙◌, arith, take_all, take_at, take-take}
 use Rattle.std.specs.Prelude.{nat_le, nat_lt, slice_index}
 use Rattle.std.specs.Int.{w32, w64, cast_signed, cast_unsigned}
@@ -17,7 +17,7 @@ use Rattle.link_base.proofs.Orders.{be_below, be_back}
 use Rattle.link_base.specs.Layout.{number_at}
 use Rattle.link_base.proofs.Values.{bytes-take, bytes-drop}
 use Rattle.link_base.proofs.ClassLemmas.{number_in, same_bytes}
-use Rattle.link_entries.proofs.OneContent.{number_told}
+use Rattle.link_entries.proofs.OneContent.{number_by_order}
 use Rattle.link_entries.specs.declared.entry.Entry.{Entry}
 use Rattle.link_entries.specs.Entry.{padded}
 use Rattle.link_entries.specs.declared.fields.Fields.{Fields}
@@ -49,12 +49,12 @@ passes own e octets p q b m is same holds all = right_form own e octets same ∙
 pub number_back : (form : ℕ) (w : Width) (e : Entry) (octets : List ℕ) → e.form ≡ form → e.number < bound (bytes_in w) → payload_of (any_number form w orders.Little) e octets ≡ Ok (bytes_of (bytes_in w) e.number)
 number_back form w e octets same low = passes (any_number form w orders.Little) e octets _ _ _ BadNumber refl same (le-leb e.number (bound (bytes_in w) - 1) (omega (arith, low))) refl
 
-by_order : (order : Order) (n : ℕ) (q : List ℕ) → IsBytes q → length q ≡ n → (number_told order (Raw q) < bound n) × (bytes_by order n (number_told order (Raw q)) ≡ q)
+by_order : (order : Order) (n : ℕ) (q : List ℕ) → IsBytes q → length q ≡ n → (number_by_order order (Raw q) < bound n) × (bytes_by order n (number_by_order order (Raw q)) ≡ q)
 by_order orders.Little n q bytes size = (number_in n q bytes size, same_bytes n q bytes size)
 by_order orders.Big n q bytes size = (be_below n q bytes size, be_back n q bytes size)
 
 -- the number of a whole payload
-pub whole_number : (form : ℕ) (w : Width) (order : Order) (q : List ℕ) (e : Entry) (octets : List ℕ) → IsBytes q → length q ≡ bytes_in w → e.form ≡ form → e.number ≡ number_told order (Raw q)
+pub whole_number : (form : ℕ) (w : Width) (order : Order) (q : List ℕ) (e : Entry) (octets : List ℕ) → IsBytes q → length q ≡ bytes_in w → e.form ≡ form → e.number ≡ number_by_order order (Raw q)
     → payload_of (any_number form w order) e octets ≡ Ok q
 whole_number form w order q e octets bytes size same is =
     let (low, back) = by_order order (bytes_in w) q bytes size in

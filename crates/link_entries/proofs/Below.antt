@@ -6,7 +6,7 @@ use Rattle.link_entries.specs.declared.fields.Fields.{Fields}
 use Rattle.link_entries.specs.declared.fields.Fields.TheVariants as fields
 use Rattle.link_entries.specs.declared.misfit.Misfit.TheVariants.{BadElement}
 use Rattle.link_entries.specs.Payload.{payload_of}
-use Rattle.link_entries.specs.Spelled.{alone, before, begins_well, element_content, element_of, elements_of}
+use Rattle.link_entries.specs.Encoded.{alone, before, begins_well, element_content, element_of, elements_of}
 use Rattle.link_entries.proofs.WrittenLists.{no_bytes}
 
 cond_same : {A : Type 0} (b : Bool) (x : A) → cond b x x ≡ x

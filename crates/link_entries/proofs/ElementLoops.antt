@@ -4,7 +4,7 @@ use Rattle.std.proofs.lemmas.Bool.{eq-eqb, ne_eqb}
 use Rattle.link_base.specs.Table.{Table}
 use Rattle.link_entries.specs.declared.entry.Entry.{Entry}
 use Rattle.link_entries.specs.declared.fields.Fields.{Fields}
-use Rattle.link_entries.specs.Spelled.{alone, before, element_of, elements_of, attribute_of, entry_of}
+use Rattle.link_entries.specs.Encoded.{alone, before, element_of, elements_of, attribute_of, entry_of}
 
 module _ (table : Table) (octets : List ℕ) (e : Entry) (es : List Entry) where
   -- an attribute, and an element that its list adds

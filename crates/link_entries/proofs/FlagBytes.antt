@@ -1,4 +1,4 @@
--- Flags that may have a byte: the payloads that entries spell, and what is read of them.
+-- Flags that may have a byte: the payloads that entries encode to, and what is read of them.
 use Rattle.std.proofs.Common.{◌≡◌, ◌≢◌, ℕ, zero, suc, ◌≤◌, true, false, cond, List, [], ◌∷◌, length, take, Ok, Err, refl, sym, ap, ap₂, subst, ◌∙◌, arith, take-append-drop}
 use Rattle.std.specs.Prelude.{nat_le, nat_lt}
 use Rattle.std.proofs.lemmas.Bool.{eqb-true, leb-true, lt-leb}
@@ -14,7 +14,7 @@ use Rattle.link_entries.proofs.OneContent.{number_in}
 use Rattle.link_entries.proofs.BackValues.{right_form}
 use Rattle.link_entries.proofs.WrittenLists.{if_held, only_held}
 
--- ---- what an entry spells
+-- ---- what an entry encodes to
 
 pub without_byte : (n x : ℕ) → n ≡ 0 → holds_flag n x ≡ true → flag_payload n x ≡ Ok []
 without_byte zero x e h = ap (λ b. cond b (Ok []) (Err BadNumber)) h
@@ -63,17 +63,17 @@ flag_read n x p h =
 pub flag_few : (n x : ℕ) (p : List ℕ) → flag_payload n x ≡ Ok p → length p ≤ 1
 flag_few n x p h = let read = flag_read n x p h in omega (arith, read.1, read.2)
 
--- ---- what was read is spelled
+-- ---- what was read is encoded
 
-spelled_by : (p : List ℕ) → length p ≤ 1 → flag_payload (length p) (number_in (flag_value (flag_in p))) ≡ Ok (written (flag_value (flag_in p)))
-spelled_by [] few = refl
-spelled_by (b ∷ []) few =
+encoded_by : (p : List ℕ) → length p ≤ 1 → flag_payload (length p) (number_in (flag_value (flag_in p))) ≡ Ok (written (flag_value (flag_in p)))
+encoded_by [] few = refl
+encoded_by (b ∷ []) few =
     elim (nat_lt 0 b) as (λ on. flag_payload 1 (cond on 1 0) ≡ Ok (cond on 1 0 ∷ [])) [
       | true ↦ refl
       | false ↦ refl
     ]
-spelled_by (b ∷ c ∷ p) few = absurd (omega (arith, few))
+encoded_by (b ∷ c ∷ p) few = absurd (omega (arith, few))
 
 pub flag_back : (e : Entry) (list p : List ℕ) → e.form ≡ form_bool → e.length ≡ length p → length p ≤ 1 → e.number ≡ number_in (flag_value (flag_in p))
     → payload_of fields.FlagOrBool e list ≡ Ok (written (flag_value (flag_in p)))
-flag_back e list p same size few is = right_form fields.FlagOrBool e list same ∙ ap₂ flag_payload size is ∙ spelled_by p few
+flag_back e list p same size few is = right_form fields.FlagOrBool e list same ∙ ap₂ flag_payload size is ∙ encoded_by p few

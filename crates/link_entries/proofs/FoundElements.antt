@@ -20,7 +20,7 @@ use Rattle.link_entries.specs.Flat.{indexed, number_entry, number_entries, IsEle
 use Rattle.link_entries.specs.Finding.{BothOrNone, last_inner, IsOneElement, IsLastElement, IsElementFound}
 use Rattle.link_entries.proofs.LastOf.{has_kind, zip_last, one_last}
 use Rattle.link_entries.proofs.EntryFields.{keeps_filled}
-use Rattle.link_entries.proofs.Shapes.{list_payload, no_elements, ElementsBy, elements_by, elements_told}
+use Rattle.link_entries.proofs.Shapes.{list_payload, no_elements, ElementsBy, elements_by, elements_by_form}
 use Rattle.link_entries.proofs.ElementEntries.{length-numbers_at}
 use Rattle.link_entries.proofs.Unique.{one_element, one_below}
 
@@ -99,14 +99,14 @@ module _ (k at : ℕ) (a : ArrayOf) (p : List ℕ) (i : ℕ) where
 
 -- a content that is neither a list nor an array has no last element
 pub none_last : (table : Table) (k at i : ℕ) (x : Content) → ((a : ArrayOf) (p : Bor (List ℕ)) → x ≡ contents.Numbers a p → ⊥) → ((p : Bor (List ℕ)) (n : ℕ) → x ≡ contents.Addresses p n → ⊥)
-    → ((p : Bor (List ℕ)) (told : Bool) → x ≡ contents.List p told → ⊥) → IsLastElement table k at x i None
-none_last table k at i (contents.List p told) a b c = absurd (c p told refl)
+    → ((p : Bor (List ℕ)) (stated : Bool) → x ≡ contents.List p stated → ⊥) → IsLastElement table k at x i None
+none_last table k at i (contents.List p stated) a b c = absurd (c p stated refl)
 none_last table k at i x a b c = ([], no_elements table k at x a b c, refl)
 
 -- the last element of a content is the last of its entries
 last_of : (table : Table) (k at i : ℕ) (o : Option Shape) (p : List ℕ) (x : Content) (found : Option Entry) (es : List Entry) → Borrows o p x → IsLastElement table k at x i found → ElementsBy table k at o p (form_of x) es → found ≡ last_inner i es
-last_of table k at i o p (contents.List list told) found es a h elements =
-    nested_found (elements_at table k) k at i p found (subst (λ l. (items : List Item) × Walk l items None × IsOneElement (elements_at table k) k at (last_item i items) found) (list_payload o p list told a) h) es elements
+last_of table k at i o p (contents.List list stated) found es a h elements =
+    nested_found (elements_at table k) k at i p found (subst (λ l. (items : List Item) × Walk l items None × IsOneElement (elements_at table k) k at (last_item i items) found) (list_payload o p list stated a) h) es elements
 last_of table k at i o p x found es a (mine, are, is) elements = is ∙ ap (last_inner i) (one_below table k at o p (form_of x) mine es (elements_by table k at o p mine x a are) elements)
 
 -- what is found in an attribute is the last element among its entries
@@ -116,5 +116,5 @@ found_in_group table x i found e es (content, has, last) (other, its, (below, el
     let o = class_at table k in
     let p = payload_of x.1 in
     let same : es ≡ below = cc in
-    let told = elements_told table x.1 other its (x.0 + 4) below elements k p refl refl o (form_of content) refl (sym has.form) in
-    last_of table k (x.0 + 4) i o p content found below has.borrows last told ∙ ap (last_inner i) (sym same)
+    let stated = elements_by_form table x.1 other its (x.0 + 4) below elements k p refl refl o (form_of content) refl (sym has.form) in
+    last_of table k (x.0 + 4) i o p content found below has.borrows last stated ∙ ap (last_inner i) (sym same)

@@ -8,7 +8,7 @@ pub mod LastOf
 pub mod ElementEntries
 pub mod EntryFields
 pub mod FoundElements
-pub mod Spellings
+pub mod Encodings
 pub mod ElementLoops
 pub mod StoredBytes
 pub mod Below

@@ -21,7 +21,7 @@ use Rattle.link_base.specs.Number.{number, bytes_of, bound, four_bytes}
 use Rattle.link_base.specs.Layout.{number_at}
 use Rattle.link_base.specs.Buffer.{kind_field_of, payload_of}
 use Rattle.link_base.specs.Table.{Table, Shape, One, Nested, Addresses, class_at, form_at}
-use Rattle.link_base.specs.Borrowed.{Borrows, Says, told, number_value, form_of, HasContent}
+use Rattle.link_base.specs.Borrowed.{Borrows, Says, as_named, number_value, form_of, HasContent}
 use Rattle.link_entries.specs.declared.entry.Entry.{Entry}
 use Rattle.link_entries.specs.Forms.{form_empty, form_bool, form_unsigned, form_signed, form_named, form_masked, form_bridge_id, form_qos_mapping, form_peer, form_bittiming_const, form_bytes, form_list, form_unknown}
 use Rattle.link_entries.specs.Entry.{padded}
@@ -69,7 +69,7 @@ has_value content = true
 
 pub says_at : (o : Option Shape) (p : List ℕ) (x : Content) → has_value x ≡ true → Borrows o p x → Says x (value_at o p)
 says_at None p (contents.Other q) s h = absurd cc
-says_at (Some (Nested flagged rows)) p (contents.List q told_flag) s h = absurd cc
+says_at (Some (Nested flagged rows)) p (contents.List q with_flag) s h = absurd cc
 says_at (Some (Addresses n)) p (contents.Addresses list size) s h = absurd cc
 says_at (Some (One classes.Limits)) p (contents.Limits name numbers) s h = absurd cc
 says_at (Some (One classes.Limits)) p x s h = absurd h
@@ -77,75 +77,75 @@ says_at (Some (One c)) p x s h = h
 says_at o p x s h = absurd h
 
 -- the number of a value whose bytes are in this order
-abbrev pub number_told : Order → Value → ℕ
-number_told orders.Little v = number_in v
-number_told orders.Big v = number (reverse (bytes_in v))
+abbrev pub number_by_order : Order → Value → ℕ
+number_by_order orders.Little v = number_in v
+number_by_order orders.Big v = number (reverse (bytes_in v))
 
 -- ---- the entry
 
 -- that of an attribute with these fields; n elements follow a list
-abbrev pub told_by : ℕ → Fields → Value → ℕ → Entry → Entry
-told_by f fields.Empty v n e = record e { form = form_empty; length = 0 }
-told_by f (fields.Number form w most order) v n e = record e { form = form; number = number_told order v }
-told_by f fields.FlagOrBool v n e = record e { form = form_bool; number = number_in v }
-told_by f fields.Signed v n e = record e { form = form_signed; number = number_in v }
-told_by f (fields.Shorts form second_first) v n e = record e { form = form; number = number_at 2 (cond second_first 2 0) (bytes_in v); second = number_at 2 (cond second_first 0 2) (bytes_in v) }
-told_by f (fields.Words form second_first) v n e = record e { form = form; number = number_at 4 (cond second_first 4 0) (bytes_in v); second = number_at 4 (cond second_first 0 4) (bytes_in v) }
-told_by f fields.Protocol v n e = record e { form = form_named; number = number_in v }
-told_by f (fields.Address form size) v n e = record e { form = form; octets = padded (bytes_in v) }
-told_by f fields.BridgeId v n e = record e { form = form_bridge_id; number = number (reverse (take 2 (bytes_in v))); octets = padded (take 6 (drop 2 (bytes_in v))) }
-told_by f (fields.Passed form size) v n e = record e { form = form }
-told_by f fields.Peer v n e = record e { form = form_peer }
-told_by f fields.Limits v n e = record e { form = form_bittiming_const; length = 48 }
-told_by f fields.Unknown v n e = record e { form = form_unknown; flags = f - kind_of f }
-told_by f own v n e = record e { form = form_list; number = n }
+abbrev pub with_payload_value : ℕ → Fields → Value → ℕ → Entry → Entry
+with_payload_value f fields.Empty v n e = record e { form = form_empty; length = 0 }
+with_payload_value f (fields.Number form w most order) v n e = record e { form = form; number = number_by_order order v }
+with_payload_value f fields.FlagOrBool v n e = record e { form = form_bool; number = number_in v }
+with_payload_value f fields.Signed v n e = record e { form = form_signed; number = number_in v }
+with_payload_value f (fields.Shorts form second_first) v n e = record e { form = form; number = number_at 2 (cond second_first 2 0) (bytes_in v); second = number_at 2 (cond second_first 0 2) (bytes_in v) }
+with_payload_value f (fields.Words form second_first) v n e = record e { form = form; number = number_at 4 (cond second_first 4 0) (bytes_in v); second = number_at 4 (cond second_first 0 4) (bytes_in v) }
+with_payload_value f fields.Protocol v n e = record e { form = form_named; number = number_in v }
+with_payload_value f (fields.Address form size) v n e = record e { form = form; octets = padded (bytes_in v) }
+with_payload_value f fields.BridgeId v n e = record e { form = form_bridge_id; number = number (reverse (take 2 (bytes_in v))); octets = padded (take 6 (drop 2 (bytes_in v))) }
+with_payload_value f (fields.Passed form size) v n e = record e { form = form }
+with_payload_value f fields.Peer v n e = record e { form = form_peer }
+with_payload_value f fields.Limits v n e = record e { form = form_bittiming_const; length = 48 }
+with_payload_value f fields.Unknown v n e = record e { form = form_unknown; flags = f - kind_of f }
+with_payload_value f own v n e = record e { form = form_list; number = n }
 
 -- likewise, by the form of its values
 abbrev pub fields_by : ℕ → Option Form → Value → ℕ → Entry → Entry
 fields_by f (Some (forms.Struct layout)) v n e = with_struct layout (bytes_in v) e
-fields_by f form v n e = told_by f (fields_in form) v n e
+fields_by f form v n e = with_payload_value f (fields_in form) v n e
 
 -- a struct that is complete
-pub struct_told : (f n : ℕ) (layout : Layout) (q : List ℕ) (e : Entry) → length q ≡ size_of (layout_extent layout) → length q ≤ e.length
-    → with_struct layout q e ≡ told_by f (struct_fields layout) (classes.Raw q) n (record e { length = size_of (layout_extent layout) })
-struct_told f n (layouts.Other lengths) q e size long = ap (λ m. record e { form = form_bytes; length = m }) (omega (arith, size, long))
-struct_told f n layouts.Clock q e size long =
+pub struct_taken : (f n : ℕ) (layout : Layout) (q : List ℕ) (e : Entry) → length q ≡ size_of (layout_extent layout) → length q ≤ e.length
+    → with_struct layout q e ≡ with_payload_value f (struct_fields layout) (classes.Raw q) n (record e { length = size_of (layout_extent layout) })
+struct_taken f n (layouts.Other lengths) q e size long = ap (λ m. record e { form = form_bytes; length = m }) (omega (arith, size, long))
+struct_taken f n layouts.Clock q e size long =
     ap (λ b. cond b (record e { form = form_bytes }) (record e { form = form_unsigned; number = number_at 4 0 q; length = 4 })) (le-ltb (length q) 4 (omega (arith, size)))
     ∙ ap (λ p. record e { form = form_unsigned; number = number p; length = 4 }) (take_all 4 q (omega (arith, size)))
-struct_told f n layout q e size long =
+struct_taken f n layout q e size long =
     let m = size_of (layout_extent layout) in
-    ap (λ b. cond b (record e { form = form_bytes }) (told_by f (struct_fields layout) (classes.Raw q) n (record e { length = m }))) (le-ltb (length q) m (omega (arith, size)))
+    ap (λ b. cond b (record e { form = form_bytes }) (with_payload_value f (struct_fields layout) (classes.Raw q) n (record e { length = m }))) (le-ltb (length q) m (omega (arith, size)))
 
 -- a flag has this number
-flag_told : (flag : Option Bool) → cond (is_on flag) 1 0 ≡ number_in (flag_value flag)
-flag_told None = refl
-flag_told (Some b) = refl
+flag_number : (flag : Option Bool) → cond (is_on flag) 1 0 ≡ number_in (flag_value flag)
+flag_number None = refl
+flag_number (Some b) = refl
 
 -- the number of the four bytes of a word
 word_bytes : (x : ℕ) → number (bytes_of 4 x) ≡ four_bytes x
 word_bytes x = omega arith
 
 -- a number is the same with and without its name, and so are bytes
-told_same : (v : Value) → number_in (told v) ≡ number_in v
-told_same (classes.Unlisted m listed d) = refl
-told_same v = refl
+as_named_same : (v : Value) → number_in (as_named v) ≡ number_in v
+as_named_same (classes.Unlisted m listed d) = refl
+as_named_same v = refl
 
-told_bytes : (v : Value) → bytes_in (told v) ≡ bytes_in v
-told_bytes (classes.Unlisted m listed d) = refl
-told_bytes v = refl
+as_named_bytes : (v : Value) → bytes_in (as_named v) ≡ bytes_in v
+as_named_bytes (classes.Unlisted m listed d) = refl
+as_named_bytes v = refl
 
-told_number : (order : Order) (role : Role) (n x : ℕ) (v : Value) → told v ≡ number_value order role n x → x < bound n → number_told order v ≡ x
-told_number orders.Little roles.Enum n x v is low = sym (told_same v) ∙ ap number_in is
-told_number orders.Little role n x v is low = sym (told_same v) ∙ ap number_in is
-told_number orders.Big role n x v is low = ap (λ q. number (reverse q)) (sym (told_bytes v) ∙ ap bytes_in is) ∙ be_again n x low
+as_named_number : (order : Order) (role : Role) (n x : ℕ) (v : Value) → as_named v ≡ number_value order role n x → x < bound n → number_by_order order v ≡ x
+as_named_number orders.Little roles.Enum n x v is low = sym (as_named_same v) ∙ ap number_in is
+as_named_number orders.Little role n x v is low = sym (as_named_same v) ∙ ap number_in is
+as_named_number orders.Big role n x v is low = ap (λ q. number (reverse q)) (sym (as_named_bytes v) ∙ ap bytes_in is) ∙ be_again n x low
 
 module _ (f n : ℕ) (e : Entry) (o : Option Shape) (p : List ℕ) where
   pub filled_by : (x : Content) → Borrows o p x → filled f x n e ≡ fields_by f (form_of x) (value_at o p) n e
   filled_by (contents.Number x w order role) h =
       let is = says_at o p (contents.Number x w order role) refl h in
-      ap (λ d. record e { form = role_form role; number = d }) (sym (told_number order role (width_of w) x (value_at o p) is.0 is.1))
+      ap (λ d. record e { form = role_form role; number = d }) (sym (as_named_number order role (width_of w) x (value_at o p) is.0 is.1))
   filled_by (contents.FlagOrBool flag) h =
-      ap (λ d. record e { form = form_bool; number = d }) (flag_told flag)
+      ap (λ d. record e { form = form_bool; number = d }) (flag_number flag)
       ∙ ap (λ v. fields_by f (Some forms.FlagOrBool) v n e) (sym (says_at o p (contents.FlagOrBool flag) refl h))
   filled_by (contents.MaskedFlags bits mask) h =
       ap₂ (λ a b. record e { form = form_masked; number = a; second = b }) (sym (word_bytes bits)) (sym (word_bytes mask))

@@ -21,7 +21,7 @@ use Rattle.link_base.specs.Table.{Row, Rows, Shape, One, Nested, Addresses, Tabl
 use Rattle.link_base.specs.Borrowed.{elements_at}
 use Rattle.link_base.specs.Coherent.{is_single, is_array, IsShapeOf}
 use Rattle.link_base.specs.WellFormed.{is_shape, is_row, is_table}
-use Rattle.link_base.proofs.Coherence.{row_told, row_kind, row_passes_all, element_single}
+use Rattle.link_base.proofs.Coherence.{row_sound, row_kind, row_passes_all, element_single}
 use Rattle.link_entries.specs.declared.entry.Entry.{Entry}
 use Rattle.link_entries.specs.declared.fields.Fields.{Fields}
 use Rattle.link_entries.specs.declared.fields.Fields.TheVariants as fields
@@ -31,13 +31,13 @@ use Rattle.link_entries.specs.Payload.{payload_of, field_of}
 -- ---- labels
 
 -- the form in a label is that of the row
-form_told : (l : Option KindLabel) (r : Option (Row Shape)) → label_in l ≡ option_map label_by r → option_map (λ x. x.form) l ≡ option_map (λ x. x.form) r
-form_told None None h = refl
-form_told (Some l) (Some r) h = ap (option_map (λ told. told.form)) h
-form_told l r h = absurd cc
+form_same : (l : Option KindLabel) (r : Option (Row Shape)) → label_in l ≡ option_map label_by r → option_map (λ x. x.form) l ≡ option_map (λ x. x.form) r
+form_same None None h = refl
+form_same (Some l) (Some r) h = ap (option_map (λ stated. stated.form)) h
+form_same l r h = absurd cc
 
 pub label_fields : (l : Option KindLabel) (table : Table) (k : ℕ) → label_in l ≡ label_at table k → fields_in (option_map (λ x. x.form) l) ≡ fields_at table k
-label_fields l table k h = ap fields_in (form_told l (row_at table k) h)
+label_fields l table k h = ap fields_in (form_same l (row_at table k) h)
 
 -- ---- fields
 
@@ -97,7 +97,7 @@ single_value form s a = refl
 
 -- ---- sizes
 
--- how many bytes entries with these fields spell, without elements; of a peer, how many at least
+-- how many bytes entries with these fields encode to, without elements; of a peer, how many at least
 abbrev pub size_in : Fields → ℕ
 size_in (fields.Number form w most order) = bytes_in w
 size_in fields.Signed = 4
@@ -111,7 +111,7 @@ size_in fields.Peer = 16
 size_in fields.Limits = 48
 size_in own = 0
 
--- whether they always spell so many
+-- whether they always encode to so many
 abbrev pub is_sized : Fields → Bool
 is_sized fields.FlagOrBool = false
 is_sized (fields.Address form n) = nat_le n 16
@@ -120,17 +120,17 @@ is_sized fields.Peer = false
 is_sized fields.Unknown = false
 is_sized own = true
 
--- they spell any bytes of this size
-abbrev pub SpellsAny : Fields → Type 0
-SpellsAny (fields.Number form w most order) = most ≡ bound (bytes_in w) - 1
-SpellsAny (fields.Shorts form second_first) = true ≡ true
-SpellsAny (fields.Words form second_first) = true ≡ true
-SpellsAny (fields.Address form n) = nat_le n 16 ≡ true
-SpellsAny fields.BridgeId = true ≡ true
-SpellsAny (fields.Passed form (Some n)) = true ≡ true
-SpellsAny own = false ≡ true
+-- they encode to any bytes of this size
+abbrev pub EncodesAny : Fields → Type 0
+EncodesAny (fields.Number form w most order) = most ≡ bound (bytes_in w) - 1
+EncodesAny (fields.Shorts form second_first) = true ≡ true
+EncodesAny (fields.Words form second_first) = true ≡ true
+EncodesAny (fields.Address form n) = nat_le n 16 ≡ true
+EncodesAny fields.BridgeId = true ≡ true
+EncodesAny (fields.Passed form (Some n)) = true ≡ true
+EncodesAny own = false ≡ true
 
-pub struct_sized : (layout : Layout) → (is_sized (struct_fields layout) ≡ true) × SpellsAny (struct_fields layout)
+pub struct_sized : (layout : Layout) → (is_sized (struct_fields layout) ≡ true) × EncodesAny (struct_fields layout)
 struct_sized layouts.BridgeId = (refl, refl)
 struct_sized layout = (refl, refl)
 
@@ -147,13 +147,13 @@ tied form names = refl
 -- ---- rows
 
 -- what the row of an attribute type says of payloads, if there is one
-pub data RowTold (table : Table) (k : ℕ) : Type 0 where
-  NoRow : form_at table k ≡ None → class_at table k ≡ None → RowTold table k
+pub data RowCase (table : Table) (k : ℕ) : Type 0 where
+  NoRow : form_at table k ≡ None → class_at table k ≡ None → RowCase table k
   OneValue :
-      (form : Form) (names : List (ℕ × List ℕ)) → form_at table k ≡ Some form → class_at table k ≡ Some (One (class_by form names)) → is_value (row_fields form) ≡ true → k < kind_limit → RowTold table k
-  Array : (a : ArrayOf) → form_at table k ≡ Some (forms.Numbers a) → class_at table k ≡ Some (One (Many (each_size a))) → k < kind_limit → RowTold table k
-  AddressList : (n : ℕ) → form_at table k ≡ Some (forms.Addresses n) → class_at table k ≡ Some (Addresses n) → n ≤ 16 → k < kind_limit → RowTold table k
-  NestedList : (flagged : Bool) (rows : Rows) → form_at table k ≡ Some (forms.List flagged) → class_at table k ≡ Some (Nested flagged rows) → k < kind_limit → RowTold table k
+      (form : Form) (names : List (ℕ × List ℕ)) → form_at table k ≡ Some form → class_at table k ≡ Some (One (class_by form names)) → is_value (row_fields form) ≡ true → k < kind_limit → RowCase table k
+  Array : (a : ArrayOf) → form_at table k ≡ Some (forms.Numbers a) → class_at table k ≡ Some (One (Many (each_size a))) → k < kind_limit → RowCase table k
+  AddressList : (n : ℕ) → form_at table k ≡ Some (forms.Addresses n) → class_at table k ≡ Some (Addresses n) → n ≤ 16 → k < kind_limit → RowCase table k
+  NestedList : (flagged : Bool) (rows : Rows) → form_at table k ≡ Some (forms.List flagged) → class_at table k ≡ Some (Nested flagged rows) → k < kind_limit → RowCase table k
 
 few : (n : ℕ) → ((n == 4) || (n == 16)) ≡ true → n ≤ 16
 few n h =
@@ -163,22 +163,22 @@ few n h =
     ]
 
 module _ (table : Table) (k : ℕ) where
-  told_by : (form : Form) (names : List (ℕ × List ℕ)) (shape : Shape) → form_at table k ≡ Some form → class_at table k ≡ Some shape → IsShapeOf form names shape → is_shape shape ≡ true → k < kind_limit → RowTold table k
-  told_by (forms.Numbers a) names (One c) named class is ok low = Array a named (class ∙ ap (λ d. Some (One d)) is.1) low
-  told_by form names (One c) named class is ok low = OneValue form names named (class ∙ ap (λ d. Some (One d)) is.1) (single_value form is.0 refl) low
-  told_by (forms.List told) names (Nested flagged rows) named class is ok low = NestedList told rows named (class ∙ ap (λ b. Some (Nested b rows)) (sym is.0)) low
-  told_by (forms.Addresses told) names (Addresses n) named class is ok low =
-      let size : told ≡ n = is in
+  case_by : (form : Form) (names : List (ℕ × List ℕ)) (shape : Shape) → form_at table k ≡ Some form → class_at table k ≡ Some shape → IsShapeOf form names shape → is_shape shape ≡ true → k < kind_limit → RowCase table k
+  case_by (forms.Numbers a) names (One c) named class is ok low = Array a named (class ∙ ap (λ d. Some (One d)) is.1) low
+  case_by form names (One c) named class is ok low = OneValue form names named (class ∙ ap (λ d. Some (One d)) is.1) (single_value form is.0 refl) low
+  case_by (forms.List stated) names (Nested flagged rows) named class is ok low = NestedList stated rows named (class ∙ ap (λ b. Some (Nested b rows)) (sym is.0)) low
+  case_by (forms.Addresses stated) names (Addresses n) named class is ok low =
+      let size : stated ≡ n = is in
       let least = few n ok in
-      AddressList told named (class ∙ ap (λ m. Some (Addresses m)) (sym size)) (omega (arith, size, least)) low
-  told_by form names shape named class is ok low = absurd is
+      AddressList stated named (class ∙ ap (λ m. Some (Addresses m)) (sym size)) (omega (arith, size, least)) low
+  case_by form names shape named class is ok low = absurd is
 
-  pub row_says : is_table table ≡ true → RowTold table k
+  pub row_says : is_table table ≡ true → RowCase table k
   row_says formed = by_row (row_at table k) refl where
-    by_row : (o : Option (Row Shape)) → row_at table k ≡ o → RowTold table k
+    by_row : (o : Option (Row Shape)) → row_at table k ≡ o → RowCase table k
     by_row None at = NoRow (ap (option_map (λ r. r.form)) at) (ap (option_map (λ r. r.class)) at)
     by_row (Some r) at =
-        told_by r.form r.names r.class (ap (option_map (λ x. x.form)) at) (ap (option_map (λ x. x.class)) at) (row_told table k r formed at) (row_passes_all table k r formed at).shape
+        case_by r.form r.names r.class (ap (option_map (λ x. x.form)) at) (ap (option_map (λ x. x.class)) at) (row_sound table k r formed at) (row_passes_all table k r formed at).shape
         (row_kind is_row k r 0 table formed at).1
 
 -- in a nested list there are no lists

@@ -21,10 +21,10 @@ use Rattle.link_base.specs.Buffer.{kind_field_of, payload_of}
 use Rattle.link_entries.specs.declared.entry.Entry.{Entry}
 
 -- the bytes of a nested list are its payload
-pub list_payload : (o : Option Shape) (p : List ℕ) (bytes : Bor (List ℕ)) (told : Bool) → Borrows o p (contents.List bytes told) → bytes.now ≡ p
-list_payload (Some (Nested flagged rows)) p bytes told h = h
-list_payload (Some (One classes.Limits)) p bytes told h = absurd h
-list_payload o p bytes told h = absurd h
+pub list_payload : (o : Option Shape) (p : List ℕ) (bytes : Bor (List ℕ)) (stated : Bool) → Borrows o p (contents.List bytes stated) → bytes.now ≡ p
+list_payload (Some (Nested flagged rows)) p bytes stated h = h
+list_payload (Some (One classes.Limits)) p bytes stated h = absurd h
+list_payload o p bytes stated h = absurd h
 
 -- a content that is a list of addresses
 pub record IsAddressList (o : Option Shape) (p : List ℕ) (list : Bor (List ℕ)) (size : ℕ) : Type 0 where
@@ -86,10 +86,10 @@ addresses_decode table f p list size has h none =
 
 -- a content that is neither a list nor an array has no elements
 pub no_elements : (table : Table) (k at : ℕ) (x : Content) → ((w : ArrayOf) (p : Bor (List ℕ)) → x ≡ contents.Numbers w p → ⊥)
-    → ((p : Bor (List ℕ)) (n : ℕ) → x ≡ contents.Addresses p n → ⊥) → ((p : Bor (List ℕ)) (told : Bool) → x ≡ contents.List p told → ⊥) → Elements table k at x []
+    → ((p : Bor (List ℕ)) (n : ℕ) → x ≡ contents.Addresses p n → ⊥) → ((p : Bor (List ℕ)) (stated : Bool) → x ≡ contents.List p stated → ⊥) → Elements table k at x []
 no_elements table k at (contents.Numbers w p) a b c = absurd (a w p refl)
 no_elements table k at (contents.Addresses p n) a b c = absurd (b p n refl)
-no_elements table k at (contents.List p told) a b c = absurd (c p told refl)
+no_elements table k at (contents.List p stated) a b c = absurd (c p stated refl)
 no_elements table k at x a b c = refl
 
 module _ (table : Table) (k at : ℕ) (o : Option Shape) (p : List ℕ) where
@@ -102,15 +102,15 @@ module _ (table : Table) (k at : ℕ) (o : Option Shape) (p : List ℕ) where
 
   -- they are those of its content
   pub elements_by : (es : List Entry) (x : Content) → Borrows o p x → Elements table k at x es → ElementsBy (form_of x) es
-  elements_by es (contents.List l told) a h = subst (λ t. AreElements (elements_at table k) k at t es) (list_payload o p l told a) h
+  elements_by es (contents.List l stated) a h = subst (λ t. AreElements (elements_at table k) k at t es) (list_payload o p l stated a) h
   elements_by es (contents.Addresses l n) a h = subst (λ t. AreAddresses k at n t es) (address_list o p l n a).payload h
   elements_by es (contents.Numbers w l) a h = h ∙ ap (λ v. number_entries k at w (bytes_in v)) (sym (says_at o p (contents.Numbers w l) refl a))
   elements_by es x a h = h
 
 -- likewise, by what is known of the attribute
-pub elements_told : (table : Table) (b : NlaBuffer) (content : Content) → HasContent table b content → (at : ℕ) (es : List Entry) → Elements table (kind_of (kind_field_of b)) at content es → (k : ℕ) (p : List ℕ)
+pub elements_by_form : (table : Table) (b : NlaBuffer) (content : Content) → HasContent table b content → (at : ℕ) (es : List Entry) → Elements table (kind_of (kind_field_of b)) at content es → (k : ℕ) (p : List ℕ)
     → kind_of (kind_field_of b) ≡ k → payload_of b ≡ p → (o : Option Shape) (form : Option Form) → class_at table k ≡ o → form_at table k ≡ form → ElementsBy table k at o p form es
-elements_told table b content has at es below k p kind bytes o form class named =
+elements_by_form table b content has at es below k p kind bytes o form class named =
     let c = kind_of (kind_field_of b) in
     let here = subst (λ m. ElementsBy table c at (class_at table c) (payload_of b) m es) has.form (elements_by table c at (class_at table c) (payload_of b) es content has.borrows below) in
     let moved = subst (λ j. ElementsBy table j at (class_at table j) (payload_of b) (form_at table j) es) kind here in

@@ -17,11 +17,11 @@ use Rattle.link_entries.specs.declared.misfit.Misfit.{Misfit}
 use Rattle.link_entries.specs.declared.misfit.MisfitAt.{MisfitAt}
 use Rattle.link_entries.specs.declared.misfit.Misfit.TheVariants.{BadElement, TooLong}
 use Rattle.link_base.specs.Table.{Table}
-use Rattle.link_entries.specs.Spelled.{Spelling, before, fitted, framed, element_content, element_of}
+use Rattle.link_entries.specs.Encoded.{Encoding, before, fitted, framed, element_content, element_of}
 use Rattle.link_entries.specs.Payload.{payload_of, field_of}
 use Rattle.link_entries.specs.Fields.{fields_at}
-use Rattle.link_entries.specs.Stored.{with_at, StoresAt, header, padded, sized, StoresPayload, StoresBytes, Spells}
-use Rattle.link_entries.proofs.Spellings.{frame_low, Reached, reached_all, reached_error}
+use Rattle.link_entries.specs.Stored.{with_at, StoresAt, header, padded, sized, StoresPayload, StoresBytes, Encodes}
+use Rattle.link_entries.proofs.Encodings.{frame_low, Reached, reached_all, reached_error}
 
 -- a buffer with s in place of a part of it
 with_mid : (a : ℕ) (s x : List ℕ) → with_at a s x ≡ put_mid a (length s) x s
@@ -103,10 +103,10 @@ pub sized_err : (r : Result (List ℕ) Misfit) (m : Misfit) → Err m ≡ sized 
 sized_err (Ok p) m e = absurd cc
 sized_err (Err n) m e = cc
 
--- bytes that entries spell
-pub spells_ok : (s : Spelling) (old new : List ℕ) (n : ℕ) → Spells s old new (Ok n) → (text : List ℕ) × (s ≡ Ok text) × (n ≡ capped (length text)) × StoresAt 0 text old new
-spells_ok (Ok text) old new n h = (text, refl, cc, h.1)
-spells_ok (Err e) old new n h = absurd cc
+-- bytes that entries encode to
+pub encodes_ok : (s : Encoding) (old new : List ℕ) (n : ℕ) → Encodes s old new (Ok n) → (text : List ℕ) × (s ≡ Ok text) × (n ≡ capped (length text)) × StoresAt 0 text old new
+encodes_ok (Ok text) old new n h = (text, refl, cc, h.1)
+encodes_ok (Err e) old new n h = absurd cc
 
 -- a payload, then its padding
 pub stored_padded : (p x y z : List ℕ) → StoresAt 4 p x y → StoresAt (4 + length p) (replicate (pad (4 + length p) - (4 + length p)) 0) y z → StoresAt 4 (padded p) x z
@@ -153,34 +153,34 @@ part_length from x sub z low same is =
     let rest = drop from x in
     ap length is ∙ omega (arith, length-append (take from x) (sub ++ drop k rest), length-append sub (drop k rest), length-take from x, length-drop k rest, length-take k rest, length-drop from x, same, low)
 
-module _ (whole others : Spelling) (text : List ℕ) (i : ℕ) (old new : List ℕ) where
+module _ (whole others : Encoding) (text : List ℕ) (i : ℕ) (old new : List ℕ) where
   -- all entries were stored
-  pub spells_all : (n : ℕ) → Reached whole text i others → others ≡ Ok [] → n ≡ capped (length text) → StoresAt 0 text old new → Spells whole old new (Ok n)
-  spells_all n h e size stored = subst (λ s. Spells s old new (Ok n)) (sym (reached_all whole others text i h e)) (ap Ok size, stored)
+  pub encodes_all : (n : ℕ) → Reached whole text i others → others ≡ Ok [] → n ≡ capped (length text) → StoresAt 0 text old new → Encodes whole old new (Ok n)
+  encodes_all n h e size stored = subst (λ s. Encodes s old new (Ok n)) (sym (reached_all whole others text i h e)) (ap Ok size, stored)
 
   -- an entry cannot be written
-  pub spells_error : (here : Spelling) (j : ℕ) (misfit : Misfit) (at : ℕ) → Reached whole text i (before here others) → here ≡ Err (j, misfit) → at ≡ i + j → length new ≡ length old
-      → Spells whole old new (Err (record { index = at; misfit = misfit }))
-  spells_error here j misfit at h e place same =
-      subst (λ s. Spells s old new (Err (record { index = at; misfit = misfit }))) (sym (reached_error whole others text i j misfit here h e)) (ap (λ n. Err (record { index = n; misfit = misfit })) place, same)
+  pub encodes_error : (here : Encoding) (j : ℕ) (misfit : Misfit) (at : ℕ) → Reached whole text i (before here others) → here ≡ Err (j, misfit) → at ≡ i + j → length new ≡ length old
+      → Encodes whole old new (Err (record { index = at; misfit = misfit }))
+  encodes_error here j misfit at h e place same =
+      subst (λ s. Encodes s old new (Err (record { index = at; misfit = misfit }))) (sym (reached_error whole others text i j misfit here h e)) (ap (λ n. Err (record { index = n; misfit = misfit })) place, same)
 
 -- the first entry that cannot be written
-pub spells_err : (s : Spelling) (old new : List ℕ) (at : MisfitAt) → Spells s old new (Err at) → (s ≡ Err (at.index, at.misfit)) × (length new ≡ length old)
-spells_err (Ok text) old new at h = absurd cc
-spells_err (Err e) old new at h = (ap back (sym h.0), h.1)
+pub encodes_err : (s : Encoding) (old new : List ℕ) (at : MisfitAt) → Encodes s old new (Err at) → (s ≡ Err (at.index, at.misfit)) × (length new ≡ length old)
+encodes_err (Ok text) old new at h = absurd cc
+encodes_err (Err e) old new at h = (ap back (sym h.0), h.1)
   where
-    back : Result ℕ MisfitAt → Spelling
+    back : Result ℕ MisfitAt → Encoding
     back (Ok n) = Ok []
     back (Err m) = Err (m.index, m.misfit)
 
 -- an attribute that fits
-pub spells_frame : (f : ℕ) (p : List ℕ) (n : ℕ) (old new : List ℕ) → length p ≤ max_payload → StoresAt 0 (frame_bytes (whole f p)) old new → n ≡ pad (4 + length p) → Spells (fitted f (Ok p)) old new (Ok n)
-spells_frame f p n old new short stored size =
+pub encodes_frame : (f : ℕ) (p : List ℕ) (n : ℕ) (old new : List ℕ) → length p ≤ max_payload → StoresAt 0 (frame_bytes (whole f p)) old new → n ≡ pad (4 + length p) → Encodes (fitted f (Ok p)) old new (Ok n)
+encodes_frame f p n old new short stored size =
     let fits : fitted f (Ok p) ≡ Ok (frame_bytes (whole f p)) = ap (λ b. cond b (Ok (frame_bytes (whole f p))) (Err (0, TooLong))) (le-leb (length p) max_payload short) in
-    subst (λ s. Spells s old new (Ok n)) (sym fits) (ap Ok (omega (arith, size, length-whole_bytes f p, short)), stored)
+    subst (λ s. Encodes s old new (Ok n)) (sym fits) (ap Ok (omega (arith, size, length-whole_bytes f p, short)), stored)
 
 -- only the two low bytes of an `nla_type` are written
-pub fitted_low : (f : ℕ) (s : Spelling) → fitted (f % 65536) s ≡ fitted f s
+pub fitted_low : (f : ℕ) (s : Encoding) → fitted (f % 65536) s ≡ fitted f s
 fitted_low f (Ok p) = ap (λ frame. cond (nat_le (length p) max_payload) (Ok frame) (Err (0, TooLong))) (frame_low f p)
 fitted_low f (Err e) = refl
 
@@ -196,9 +196,9 @@ behind s x y z long h k = record {
 }
 
 -- an attribute over an empty payload
-pub spells_behind : (f : ℕ) (s : Spelling) (x y z : List ℕ) (result : Result ℕ MisfitAt) → StoresAt 4 (padded []) x y → Spells (fitted f s) y z result → Spells (fitted f s) x z result
-spells_behind f (Err e) x y z result h k = (k.0, k.1 ∙ h.same)
-spells_behind f (Ok p) x y z result h k = (k.0, by (nat_le (length p) max_payload) k.1)
+pub encodes_behind : (f : ℕ) (s : Encoding) (x y z : List ℕ) (result : Result ℕ MisfitAt) → StoresAt 4 (padded []) x y → Encodes (fitted f s) y z result → Encodes (fitted f s) x z result
+encodes_behind f (Err e) x y z result h k = (k.0, k.1 ∙ h.same)
+encodes_behind f (Ok p) x y z result h k = (k.0, by (nat_le (length p) max_payload) k.1)
   where
     by : (b : Bool) → StoresBytes {E = ℕ × Misfit} (cond b (Ok (frame_bytes (whole f p))) (Err (0, TooLong))) y z → StoresBytes {E = ℕ × Misfit} (cond b (Ok (frame_bytes (whole f p))) (Err (0, TooLong))) x z
     by true stored = behind (frame_bytes (whole f p)) x y z (omega (arith, length-whole_bytes f p)) h stored

@@ -14,7 +14,7 @@ use Rattle.link_entries.specs.declared.entry.Entry.{Entry}
 use Rattle.link_entries.specs.Entry.{blank}
 use Rattle.link_entries.specs.Flat.{indexed, address_entry, is_address, AreAddresses, IsElement, AreElements, head_entry, IsGroup, Flat}
 use Rattle.link_entries.proofs.OneContent.{value_at, fields_by, entry_read}
-use Rattle.link_entries.proofs.Shapes.{ElementsBy, elements_told}
+use Rattle.link_entries.proofs.Shapes.{ElementsBy, elements_by_form}
 
 -- what stands beside items that are alike is the same
 zip_one : {A B K : Type 0} (key : A → K) (R : A → B → Type 0) → ((x y : A) (b c : B) → key x ≡ key y → R x b → R y c → b ≡ c) → (xs ys : List A) (bs cs : List B) → map key xs ≡ map key ys
@@ -75,8 +75,8 @@ one_group table x y es es' same (content, has, (below, elements, is)) (other, it
     let f : kind_field_of x.1 ≡ kind_field_of y.1 = ap (λ s. s.1) same in
     let p = payload_of y.1 in
     let k = kind_of (kind_field_of y.1) in
-    let first = elements_told table x.1 content has (x.0 + 4) below elements k p (ap kind_of f) (ap (λ s. s.2) same) (class_at table k) (form_at table k) refl refl in
-    let second = elements_told table y.1 other its (y.0 + 4) below' elements' k p refl refl (class_at table k) (form_at table k) refl refl in
+    let first = elements_by_form table x.1 content has (x.0 + 4) below elements k p (ap kind_of f) (ap (λ s. s.2) same) (class_at table k) (form_at table k) refl refl in
+    let second = elements_by_form table y.1 other its (y.0 + 4) below' elements' k p refl refl (class_at table k) (form_at table k) refl refl in
     let one = one_below table k (y.0 + 4) (class_at table k) p (form_at table k) below below' (subst (λ n. ElementsBy table k (n + 4) (class_at table k) p (form_at table k) below) place first) second in
     let heads : head_entry x content (length below) ≡ head_entry y other (length below') =
     entry_read table x.1 content has (length below) (λ i n. blank i 0 0 (x.0 + 4) n) k p (ap kind_of f) (ap (λ s. s.2) same)

@@ -1,4 +1,4 @@
--- What entries spell decodes: attributes, elements, and lists.
+-- What entries encode to decodes: attributes, elements, and lists.
 use Rattle.std.proofs.Common.{◌≡◌, ℕ, ◌+◌, ◌*◌, ◌%◌, ◌<◌, ◌≤◌, ◌==◌, true, false, List, [], ◌∷◌, ◌++◌, length, replicate, Ok, refl, sym, ap, subst, ◌∙◌, arith, inl, inr, cond, Option, Some}
 use Rattle.std.specs.List.{AllByRecursion}
 use Rattle.std.proofs.lemmas.List.{length-append}
@@ -14,10 +14,10 @@ use Rattle.link_entries.specs.declared.entry.Entry.{Entry}
 use Rattle.link_entries.specs.declared.fields.Fields.TheVariants as fields
 use Rattle.link_entries.specs.Fields.{array_number, ip_address, fields_in, fields_at, row_fields}
 use Rattle.link_entries.specs.Payload.{payload_of, field_of}
-use Rattle.link_entries.specs.Spelled.{element_content, elements_of, attribute_of, entry_of, entries_of, begins_well, spelled_by}
-use Rattle.link_entries.proofs.RowForms.{is_list, with_kind, field_kind, NoRow, OneValue, Array, AddressList, NestedList, row_says, value_no_list, RowTold, element_no_list}
-use Rattle.link_entries.proofs.Spellings.{frame_low}
-use Rattle.link_entries.proofs.WrittenLists.{if_held, same_spells, framed_ok, wire_none, wire_more, before_ok}
+use Rattle.link_entries.specs.Encoded.{element_content, elements_of, attribute_of, entry_of, entries_of, begins_well, encoded_by}
+use Rattle.link_entries.proofs.RowForms.{is_list, with_kind, field_kind, NoRow, OneValue, Array, AddressList, NestedList, row_says, value_no_list, RowCase, element_no_list}
+use Rattle.link_entries.proofs.Encodings.{frame_low}
+use Rattle.link_entries.proofs.WrittenLists.{if_held, same_encodings, framed_ok, wire_none, wire_more, before_ok}
 use Rattle.link_entries.proofs.EntryFields.{AreBelow}
 use Rattle.link_entries.proofs.WrittenParts.{goes, Parts, parts, single_payload, list_payload, field_held}
 use Rattle.link_entries.proofs.WrittenSizes.{written_size, size_back}
@@ -73,7 +73,7 @@ single_decodes table formed e octets p s held short single h text =
 
 module _ (table : Table) (n k : ℕ) (octets : List ℕ) where
   pub addresses_decode : (i : ℕ) (es : List Entry) (s : List ℕ) → AreBelow es → length s ≤ 65531 → elements_of table (fields.Addresses n) k octets i es ≡ Ok s → (vs : List (List ℕ)) × Wire PayloadGives s vs
-  addresses_decode i [] s deep few h = ([], subst (λ t. Wire PayloadGives t []) (same_spells [] s h) (wire_none PayloadGives))
+  addresses_decode i [] s deep few h = ([], subst (λ t. Wire PayloadGives t []) (same_encodings [] s h) (wire_none PayloadGives))
   addresses_decode i (e ∷ es) s deep few h =
       let one = goes table (fields.Addresses n) k octets i e es s (ap (λ m. m == 0) deep.0) h in
       let (p, payload, text) = framed_ok i (payload_of (ip_address n) e octets) one.here one.content in
@@ -92,7 +92,7 @@ array_size a e octets p held h = written_size e octets p held (array_number a) r
 
 module _ (P : Entry → Type 0) (is_held : (e : Entry) → P e → IsHeld e) (table : Table) (a : ArrayOf) (k : ℕ) (octets : List ℕ) where
   pub numbers_length : (i : ℕ) (es : List Entry) (s : List ℕ) → AreBelow es → AllByRecursion P es → elements_of table (fields.Numbers a) k octets i es ≡ Ok s → length s ≡ length es * each_size a
-  numbers_length i [] s deep held h = let none = same_spells [] s h in omega (arith, ap length none)
+  numbers_length i [] s deep held h = let none = same_encodings [] s h in omega (arith, ap length none)
   numbers_length i (e ∷ es) s deep held h =
       let one = goes table (fields.Numbers a) k octets i e es s (ap (λ n. n == 0) deep.0) h in
       let size = array_size a e octets one.here (is_held e held.0) one.content in
@@ -110,7 +110,7 @@ module _ (table : Table) (formed : is_table table ≡ true) (single : (j : ℕ) 
       single_decodes table formed (with_kind e e.inner) octets p s held short (single e.inner) payload (text ∙ ap (λ f. frame_bytes (whole f p)) (sym (field_kind own e.inner e e.inner)))
 
   pub nested_decodes : (i : ℕ) (es : List Entry) (s : List ℕ) → AreBelow es → AllByRecursion IsHeld es → length s ≤ 65531 → elements_of table (fields.List flag) k octets i es ≡ Ok s → (vs : List AttrValue) × Wire (Gives table) s vs
-  nested_decodes i [] s deep held few h = ([], subst (λ t. Wire (Gives table) t []) (same_spells [] s h) (wire_none (Gives table)))
+  nested_decodes i [] s deep held few h = ([], subst (λ t. Wire (Gives table) t []) (same_encodings [] s h) (wire_none (Gives table)))
   nested_decodes i (e ∷ es) s deep held few h =
       let one = goes table (fields.List flag) k octets i e es s (ap (λ n. n == 0) deep.0) h in
       let size : length s ≡ length one.here + length one.others = ap length one.is ∙ length-append one.here one.others in
@@ -151,7 +151,7 @@ module _ (table : Table) (formed : is_table table ≡ true) (octets : List ℕ) 
   given_by : (o : Option Shape) (v : AttrValue) → class_at table k ≡ o → GivesBy o (g % 65536) p (Ok v) → IsAttribute table s
   given_by o v class given = of_value table g p s v w.short w.text (subst (λ q. GivesBy q (g % 65536) p (Ok v)) (sym (ap (class_at table) kind ∙ class)) given)
 
-  by_row : RowTold table k → IsAttribute table s
+  by_row : RowCase table k → IsAttribute table s
   by_row (NoRow named class) = single (ap (λ o. is_list (fields_in o)) named)
   by_row (OneValue form names named class one low) = single (ap (λ o. is_list (fields_in o)) named ∙ value_no_list (row_fields form) one)
   by_row (Array a named class low) =
@@ -177,7 +177,7 @@ module _ (table : Table) (formed : is_table table ≡ true) (octets : List ℕ) 
 
 module _ (table : Table) (formed : is_table table ≡ true) (octets : List ℕ) where
   entries_decode : (es : List Entry) (t : List ℕ) → AllByRecursion IsHeld es → entries_of table octets es ≡ Ok t → (vs : List AttrValue) × Wire (Gives table) t vs
-  entries_decode [] t held h = ([], subst (λ u. Wire (Gives table) u []) (same_spells [] t h) (wire_none (Gives table)))
+  entries_decode [] t held h = ([], subst (λ u. Wire (Gives table) u []) (same_encodings [] t h) (wire_none (Gives table)))
   entries_decode (e ∷ es) t held h =
       let gives = Gives table in
       let both = before_ok (entry_of table octets e es) (entries_of table octets es) t h in
@@ -188,11 +188,11 @@ module _ (table : Table) (formed : is_table table ≡ true) (octets : List ℕ) 
             let a = attribute_decodes table formed octets e es both.first held.0 (parts IsHeld table octets e es both.first held.1 own) in
             (a.value ∷ vs, subst (λ u. Wire gives u (a.value ∷ vs)) (ap (λ u. u ++ both.second) a.text ∙ sym both.is) (wire_more gives a.field a.payload both.second a.value vs a.low a.short a.given wire))
         | inr deep ↦
-            let none : [] ≡ both.first = same_spells [] both.first (sym (ap (λ b. cond b (attribute_of table octets e es) (Ok [])) deep) ∙ both.is_first) in
+            let none : [] ≡ both.first = same_encodings [] both.first (sym (ap (λ b. cond b (attribute_of table octets e es) (Ok [])) deep) ∙ both.is_first) in
             (vs, subst (λ u. Wire gives u vs) (ap (λ u. u ++ both.second) none ∙ sym both.is) wire)
       ]
 
-  pub spelled_decodes : (es : List Entry) (t : List ℕ) → AllByRecursion IsHeld es → spelled_by table octets es ≡ Ok t → Decodes table t
-  spelled_decodes es t held h =
+  pub encoded_decodes : (es : List Entry) (t : List ℕ) → AllByRecursion IsHeld es → encoded_by table octets es ≡ Ok t → Decodes table t
+  encoded_decodes es t held h =
       let (vs, wire) = entries_decode es t held (if_held (begins_well es) (0, BadElement) (entries_of table octets es) t h).1 in
       record { values = vs; wire = wire }

@@ -1,4 +1,4 @@
--- What entries spell, taken apart; and lists of whole attributes.
+-- What entries encode to, taken apart; and lists of whole attributes.
 use Rattle.std.proofs.Common.{◌≡◌, ℕ, ◌+◌, ◌<◌, ◌≤◌, ◌&&◌, Bool, true, false, cond, List, [], ◌∷◌, ◌++◌, length, take, drop, Option, None, Result, Ok, Err, refl, sym, ap}
 use Rattle.std.specs.Prelude.{nat_le}
 use Rattle.std.proofs.lemmas.Bool.{leb-true}
@@ -13,7 +13,7 @@ use Rattle.link_entries.specs.declared.fields.Fields.TheVariants as fields
 use Rattle.link_entries.specs.declared.misfit.Misfit.{Misfit}
 use Rattle.link_entries.specs.declared.misfit.Misfit.TheVariants.{TooLong, BadForm, BadOctets}
 use Rattle.link_entries.specs.Payload.{has_form, only_if, has_size, passed, headed, content_of, payload_of}
-use Rattle.link_entries.specs.Spelled.{Spelling, alone, before, framed, fitted, element_content}
+use Rattle.link_entries.specs.Encoded.{Encoding, alone, before, framed, fitted, element_content}
 use Rattle.link_entries.proofs.RowForms.{is_list}
 
 -- ---- tests that held
@@ -21,14 +21,14 @@ use Rattle.link_entries.proofs.RowForms.{is_list}
 abbrev pub these : List ℕ → Result (List ℕ) Misfit
 these p = Ok p
 
-abbrev pub spells : List ℕ → Spelling
-spells s = Ok s
+abbrev pub encodes : List ℕ → Encoding
+encodes s = Ok s
 
 pub same_these : (p q : List ℕ) → these p ≡ Ok q → p ≡ q
 same_these p q e = cc
 
-pub same_spells : (p q : List ℕ) → spells p ≡ Ok q → p ≡ q
-same_spells p q e = cc
+pub same_encodings : (p q : List ℕ) → encodes p ≡ Ok q → p ≡ q
+same_encodings p q e = cc
 
 pub if_held : {E : Type 0} (b : Bool) (m : E) (r : Result (List ℕ) E) (p : List ℕ) → cond b r (Err m) ≡ Ok p → (b ≡ true) × (r ≡ Ok p)
 if_held true m r p e = (refl, e)
@@ -84,16 +84,16 @@ headed_held e octets p h =
     let right = if_held (nat_le 16 e.length) BadOctets (passed None e octets) p h in
     record { least = leb-true 16 e.length right.0; all = passed_held None e octets p right.1 }
 
--- ---- spellings
+-- ---- encodings
 
-pub record Both (a b : Spelling) (t : List ℕ) : Type 0 where
+pub record Both (a b : Encoding) (t : List ℕ) : Type 0 where
   pub first : List ℕ
   pub second : List ℕ
   pub is_first : a ≡ Ok first
   pub is_second : b ≡ Ok second
   pub is : t ≡ first ++ second
 
-pub before_ok : (a b : Spelling) (t : List ℕ) → before a b ≡ Ok t → Both a b t
+pub before_ok : (a b : Encoding) (t : List ℕ) → before a b ≡ Ok t → Both a b t
 before_ok (Ok s) (Ok u) t e = record { first = s; second = u; is_first = refl; is_second = refl; is = cc }
 before_ok (Ok s) (Err x) t e = absurd cc
 before_ok (Err x) b t e = absurd cc
@@ -107,16 +107,16 @@ pub framed_ok : (f : ℕ) (r : Result (List ℕ) Misfit) (s : List ℕ) → fram
 framed_ok f (Ok p) s e = (p, refl, sym (same_these (frame_bytes (whole f p)) s e))
 framed_ok f (Err m) s e = absurd cc
 
-pub record Fitted (f : ℕ) (r : Spelling) (s : List ℕ) : Type 0 where
+pub record Fitted (f : ℕ) (r : Encoding) (s : List ℕ) : Type 0 where
   pub payload : List ℕ
   pub is : r ≡ Ok payload
   pub short : length payload ≤ max_payload
   pub text : s ≡ frame_bytes (whole f payload)
 
-pub fitted_ok : (f : ℕ) (r : Spelling) (s : List ℕ) → fitted f r ≡ Ok s → Fitted f r s
+pub fitted_ok : (f : ℕ) (r : Encoding) (s : List ℕ) → fitted f r ≡ Ok s → Fitted f r s
 fitted_ok f (Ok p) s e =
-    let (fits, own) = if_held (nat_le (length p) max_payload) (0, TooLong) (spells (frame_bytes (whole f p))) s e in
-    record { payload = p; is = refl; short = leb-true (length p) max_payload fits; text = sym (same_spells (frame_bytes (whole f p)) s own) }
+    let (fits, own) = if_held (nat_le (length p) max_payload) (0, TooLong) (encodes (frame_bytes (whole f p))) s e in
+    record { payload = p; is = refl; short = leb-true (length p) max_payload fits; text = sym (same_encodings (frame_bytes (whole f p)) s own) }
 fitted_ok f (Err x) s e = absurd cc
 
 -- ---- lists

@@ -1,4 +1,4 @@
--- An attribute that entries spell, taken apart: its `nla_type`, its payload and its elements.
+-- An attribute that entries encode to, taken apart: its `nla_type`, its payload and its elements.
 use Rattle.std.proofs.Common.{◌≡◌, ℕ, ◌+◌, ◌%◌, ◌<◌, ◌==◌, ◌&&◌, Bool, true, false, List, None, Ok, sym, ap, ◌∙◌, arith, inl, inr, ◌≤◌, cond, [], ◌∷◌, ◌++◌, length, refl}
 use Rattle.std.specs.Prelude.{nat_lt}
 use Rattle.std.proofs.lemmas.Bool.{eqb-true, ltb-true, cases_Bool}
@@ -12,13 +12,13 @@ use Rattle.link_entries.specs.Fields.{row_fields, fields_in, fields_at}
 use Rattle.link_entries.specs.Payload.{passed, payload_of, field_of}
 use Rattle.link_entries.specs.Agreement.{referred}
 use Rattle.link_entries.proofs.RowForms.{value_field, NoRow, OneValue, Array, AddressList, NestedList, row_says, is_list}
-use Rattle.link_entries.proofs.WrittenLists.{if_held, both_true, content_ok, passed_held, same_spells, no_bytes, no_content, before_ok, alone_ok, fitted_ok}
+use Rattle.link_entries.proofs.WrittenLists.{if_held, both_true, content_ok, passed_held, same_encodings, no_bytes, no_content, before_ok, alone_ok, fitted_ok}
 use Rattle.std.specs.List.{AllByRecursion}
 use Rattle.std.proofs.lemmas.List.{append-nil}
 use Rattle.link_base.specs.Wire.{whole}
 use Rattle.link_base.specs.Borrowed.{elements_at}
 use Rattle.link_entries.specs.declared.fields.Fields.{Fields}
-use Rattle.link_entries.specs.Spelled.{alone, before, element_content, element_of, elements_of, attribute_of, begins_well}
+use Rattle.link_entries.specs.Encoded.{alone, before, element_content, element_of, elements_of, attribute_of, begins_well}
 use Rattle.link_entries.proofs.EntryFields.{AreBelow}
 use Rattle.link_entries.proofs.BackElements.{element_right, elements_next}
 
@@ -106,7 +106,7 @@ pub record Cut (P : Entry → Type 0) (table : Table) (own : Fields) (k i : ℕ)
   pub is : es ≡ below ++ rest
   pub deep : AreBelow below
   pub end : begins_well rest ≡ true
-  pub spelled : elements_of table own k octets i below ≡ Ok s
+  pub encoded : elements_of table own k octets i below ≡ Ok s
   pub held : AllByRecursion P below
   pub held_rest : AllByRecursion P rest
 
@@ -118,7 +118,7 @@ module _ (P : Entry → Type 0) (table : Table) (own : Fields) (k : ℕ) (octets
     is = refl;
     deep = tt;
     end = refl;
-    spelled = h;
+    encoded = h;
     held = tt;
     held_rest = tt;
   }
@@ -131,7 +131,7 @@ module _ (P : Entry → Type 0) (table : Table) (own : Fields) (k : ℕ) (octets
               is = refl;
               deep = tt;
               end = flat;
-              spelled = sym (ap (λ b. cond b (Ok []) (before (alone (element_of table own k i e octets)) (elements_of table own k octets (i + 1) es))) flat) ∙ h;
+              encoded = sym (ap (λ b. cond b (Ok []) (before (alone (element_of table own k i e octets)) (elements_of table own k octets (i + 1) es))) flat) ∙ h;
               held = tt;
               held_rest = held;
             }
@@ -144,7 +144,7 @@ module _ (P : Entry → Type 0) (table : Table) (own : Fields) (k : ℕ) (octets
               is = ap (λ t. e ∷ t) c.is;
               deep = (one.deep, c.deep);
               end = c.end;
-              spelled = elements_next table own k i e c.below octets one.here one.others one.deep (element_right table own k i e octets one.here one.deep one.kind one.content) c.spelled ∙ ap (λ t. Ok t) (sym one.is);
+              encoded = elements_next table own k i e c.below octets one.here one.others one.deep (element_right table own k i e octets one.here one.deep one.kind one.content) c.encoded ∙ ap (λ t. Ok t) (sym one.is);
               held = (held.0, c.held);
               held_rest = c.held_rest;
             }
@@ -194,8 +194,8 @@ module _ (P : Entry → Type 0) (table : Table) (octets : List ℕ) (e : Entry) 
   single_payload plain =
       let own = fields_at table e.kind in
       let inner = elements_at table e.kind in
-      let none = no_elements inner own e.kind octets w.cut.below w.back w.cut.deep plain w.cut.spelled in
-      let nothing : [] ≡ w.back = same_spells [] w.back (sym (ap (elements_of inner own e.kind octets 0) none) ∙ w.cut.spelled) in
+      let none = no_elements inner own e.kind octets w.cut.below w.back w.cut.deep plain w.cut.encoded in
+      let nothing : [] ≡ w.back = same_encodings [] w.back (sym (ap (elements_of inner own e.kind octets 0) none) ∙ w.cut.encoded) in
       let all : w.front ≡ w.payload = sym (w.is ∙ ap (λ t. w.front ++ t) (sym nothing) ∙ append-nil w.front) in
       (none, w.front_is ∙ ap (λ t. Ok t) all)
 
@@ -204,4 +204,4 @@ module _ (P : Entry → Type 0) (table : Table) (octets : List ℕ) (e : Entry) 
   list_payload row looked listed =
       let none = no_bytes row e octets w.front listed (ap (λ o. payload_of o e octets) (sym looked) ∙ w.front_is) in
       let all : w.back ≡ w.payload = sym (w.is ∙ ap (λ t. t ++ w.back) none) in
-      ap (λ o. elements_of (elements_at table e.kind) o e.kind octets 0 w.cut.below) (sym looked) ∙ w.cut.spelled ∙ ap (λ t. Ok t) all
+      ap (λ o. elements_of (elements_at table e.kind) o e.kind octets 0 w.cut.below) (sym looked) ∙ w.cut.encoded ∙ ap (λ t. Ok t) all

@@ -1,4 +1,4 @@
--- The payloads that entries spell have lengths that their class accepts.
+-- The payloads that entries encode to have lengths that their class accepts.
 use Rattle.std.proofs.Common.{◌≡◌, ℕ, ◌+◌, ◌≤◌, Bool, true, false, cond, List, [], ◌++◌, length, take, drop, Some, None, Result, Ok, Err, refl, sym, ap, ◌∙◌, arith}
 use Rattle.std.specs.Prelude.{reverse}
 use Rattle.std.proofs.lemmas.Bool.{eqb-true, leb-true, le-ltb}

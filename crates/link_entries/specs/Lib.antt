@@ -5,8 +5,9 @@ pub mod Flat
 pub mod Finding
 pub mod Fields
 pub mod Payload
+pub mod Units
 pub mod Rows
 pub mod Order
-pub mod Spelled
+pub mod Encoded
 pub mod Stored
 pub mod Agreement

@@ -1,4 +1,4 @@
--- The payloads that entries spell.
+-- The payloads that entries encode to.
 use Rattle.std.specs.Prelude.{ℕ, ◌+◌, ◌-◌, ◌^◌, ◌%◌, ◌==◌, ◌&&◌, ◌||◌, Bool, true, false, List, [], ◌++◌, length, take, drop, reverse, Option, Some, None, Result, Ok, Err, nat_lt, nat_le, if◌then◌else◌}
 use Rattle.std.specs.Borrow.{Bor}
 use Rattle.link_base.specs.Forms.{bytes_in as width_of}
@@ -119,6 +119,6 @@ field_of own k e = k
 -- ---- as functions return them
 
 -- the bytes that an entry refers to
-abbrev pub slice_told : Result (Bor (List ℕ)) Misfit → Result (List ℕ) Misfit
-slice_told (Ok p) = Ok p.now
-slice_told (Err misfit) = Err misfit
+abbrev pub slice_value : Result (Bor (List ℕ)) Misfit → Result (List ℕ) Misfit
+slice_value (Ok p) = Ok p.now
+slice_value (Err misfit) = Err misfit

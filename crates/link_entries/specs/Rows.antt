@@ -9,6 +9,7 @@ use Rattle.link_entries.specs.declared.row.Row.{Row}
 use Rattle.link_base.specs.Number.{four_bytes}
 use Rattle.link_entries.specs.Fields.{array_number, ip_address, fields_at}
 use Rattle.link_entries.specs.Payload.{form_in}
+use Rattle.link_entries.specs.Units.{unit_at}
 
 -- the length that bytes must have, if it is fixed
 abbrev pub size_or_0 : Option ℕ → ℕ
@@ -42,19 +43,20 @@ list_in (fields.Addresses size) = 1
 list_in (fields.List flag) = 1
 list_in own = 0
 
-abbrev pub row_by : Fields → Row
-row_by own = record { width = four_bytes (width_in own); flags = flags_in own; form = form_in own; is_list = list_in own }
+abbrev pub row_by : Fields → ℕ → Row
+row_by own unit = record { width = four_bytes (width_in own); flags = flags_in own; form = form_in own; is_list = list_in own; unit = unit }
 
--- for an element i of a list whose entries have these fields; `table` has the rows of its elements
-abbrev pub element_row : Table → Fields → ℕ → Option Row
-element_row table (fields.Numbers a) i = Some (row_by (array_number a))
-element_row table (fields.Addresses size) i = Some (row_by (ip_address size))
-element_row table (fields.List flag) i = Some (row_by (fields_at table i))
-element_row table own i = None
+-- for an element i of a list whose entries have these fields and this unit, which numbers and addresses have too; `table` has
+-- the rows of its elements
+abbrev pub element_row : Table → Fields → ℕ → ℕ → Option Row
+element_row table (fields.Numbers a) unit i = Some (row_by (array_number a) unit)
+element_row table (fields.Addresses size) unit i = Some (row_by (ip_address size) unit)
+element_row table (fields.List flag) unit i = Some (row_by (fields_at table i) (unit_at table i))
+element_row table own unit i = None
 
 -- for an attribute of type k, or its element i; none if the attribute is no list, or at other depths
 abbrev pub row_of_type : Table → ℕ → ℕ → ℕ → Option Row
 row_of_type table k i depth =
-    if depth == 0 then Some (row_by (fields_at table k))
-    else (if depth == 1 then element_row (elements_at table k) (fields_at table k) i
+    if depth == 0 then Some (row_by (fields_at table k) (unit_at table k))
+    else (if depth == 1 then element_row (elements_at table k) (fields_at table k) (unit_at table k) i
     else None)

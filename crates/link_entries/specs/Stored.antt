@@ -4,7 +4,7 @@ use Rattle.link_base.specs.Number.{bytes_of}
 use Rattle.link_base.specs.Frame.{gap}
 use Rattle.link_entries.specs.declared.misfit.Misfit.{Misfit}
 use Rattle.link_entries.specs.declared.misfit.MisfitAt.{MisfitAt}
-use Rattle.link_entries.specs.Spelled.{Spelling, measured}
+use Rattle.link_entries.specs.Encoded.{Encoding, measured}
 
 -- a buffer with s at an offset
 abbrev pub with_at : ℕ → List ℕ → List ℕ → List ℕ
@@ -37,6 +37,6 @@ abbrev pub StoresBytes : {E : Type 0} → Result (List ℕ) E → List ℕ → L
 StoresBytes (Ok s) old new = StoresAt 0 s old new
 StoresBytes (Err e) old new = length new ≡ length old
 
--- what entries spell was stored, and the result is its length, or the first entry that cannot be written
-abbrev pub Spells : Spelling → List ℕ → List ℕ → Result ℕ MisfitAt → Type 0
-Spells spelling old new result = (result ≡ measured spelling) × StoresBytes spelling old new
+-- what entries encode to was stored, and the result is its length, or the first entry that cannot be written
+abbrev pub Encodes : Encoding → List ℕ → List ℕ → Result ℕ MisfitAt → Type 0
+Encodes encoding old new result = (result ≡ measured encoding) × StoresBytes encoding old new

@@ -15,7 +15,7 @@ ghost use Rattle.link_entries.specs.Flat.{Flat, IsGroup};
 ghost use Rattle.link_entries.specs.Finding.{Finds, last_entry, last_inner, IsElementFound};
 ghost use Rattle.link_entries.specs.Payload.{payload_of};
 ghost use Rattle.link_entries.specs.Order.{misfit_in, first_misfit};
-ghost use Rattle.link_entries.specs.Spelled.{spelled_by};
+ghost use Rattle.link_entries.specs.Encoded.{encoded_by};
 ghost use Rattle.link_entries.specs.Agreement.{IsEntry, Agrees};
 
 use crate::misfit::{Misfit, MisfitAt};
@@ -43,14 +43,14 @@ pub fn find_in_group()
 /// [`rewrite`](netlink_packet_route::rewrite) returns for the list.
 pub fn written_back()
     ensures { (family : Family) (list written : List ℕ) (es : List Entry) → IsBytes list → Flat (table_of family) list es
-        → Rewriting (table_of family) list written → spelled_by (table_of family) list es ≡ Ok written }
+        → Rewriting (table_of family) list written → encoded_by (table_of family) list es ≡ Ok written }
 {}
 
 /// What [`write`](crate::write) writes decodes. Entries have sixteen octets, as the type has.
-#[tactic(auto, using(crate::proofs::WrittenDecodes::spelled_decodes, netlink_packet_route::proofs::Families::families_formed))]
+#[tactic(auto, using(crate::proofs::WrittenDecodes::encoded_decodes, netlink_packet_route::proofs::Families::families_formed))]
 pub fn written_decodes()
     ensures { (family : Family) (octets written : List ℕ) (es : List Entry) → AllByRecursion (λ e. length e.octets ≡ 16) es
-        → spelled_by (table_of family) octets es ≡ Ok written → Decodes (table_of family) written }
+        → encoded_by (table_of family) octets es ≡ Ok written → Decodes (table_of family) written }
 {}
 
 /// The entries of what [`write`](crate::write) writes are the entries that it was passed, one by one: the same types,
@@ -59,7 +59,7 @@ pub fn written_decodes()
 #[tactic(auto, using(crate::proofs::AgreeLists::written_agrees, netlink_packet_route::proofs::Families::families_formed))]
 pub fn written_read()
     ensures { (family : Family) (octets written : List ℕ) (es read : List Entry) → AllByRecursion IsEntry es
-        → spelled_by (table_of family) octets es ≡ Ok written → Flat (table_of family) written read
+        → encoded_by (table_of family) octets es ≡ Ok written → Flat (table_of family) written read
         → AllZip (Agrees (table_of family) octets written) es read }
 {}
 

@@ -1,14 +1,16 @@
 //! Lists of link attributes as arrays of fixed-size entries: one for each attribute, and after an attribute that is a list
 //! one for each element. [`flatten`] stores a list, [`find`] and [`find_in`] look an entry up, and [`write`](fn@write)
-//! writes the list that entries spell. Nothing is allocated.
+//! writes entries as a list. Nothing is allocated.
 //!
-//! [`Entry`] has the layout of `struct nlroute_value` in the C API. [`forms`] has the numbers of its forms.
+//! [`Entry`] has the layout of `struct nlroute_value` in the C API. [`forms`] has the numbers of its forms, and [`units`] those
+//! of what its numbers count.
 #![tactic(auto)]
 
 mod arrays;
 mod contents;
 mod counting;
 mod elements;
+pub mod encoding;
 mod entry;
 pub mod fields;
 mod finding;
@@ -21,8 +23,8 @@ mod name;
 pub mod octets;
 pub mod payload;
 mod row;
-pub mod spelling;
 pub mod storing;
+pub mod units;
 mod writing;
 
 pub use counting::count;

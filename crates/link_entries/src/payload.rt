@@ -1,4 +1,4 @@
-//! The payloads that entries spell.
+//! The payloads that entries encode to.
 
 ghost use Rattle.std.specs.Prelude.{◌≡◌, ◌≤◌, ◌<◌, [], Some, nat_le, length, take, IfOk, IfSome};
 ghost use Rattle.link_base.specs.Number.{bytes_of, bytes_be, bound};
@@ -7,7 +7,7 @@ ghost use Rattle.link_base.specs.Class.{Limits, meant, written};
 ghost use Rattle.link_base.specs.Frame.{max_payload};
 ghost use Rattle.link_base.specs.Forms.{bytes_in as width_of};
 ghost use Rattle.link_entries.specs.Fields.{IsNarrow};
-ghost use Rattle.link_entries.specs.Payload.{has_form, form_in, only_if, has_size, passed, headed, rewritten, is_i32, holds_flag, content_of, payload_of, slice_told};
+ghost use Rattle.link_entries.specs.Payload.{has_form, form_in, only_if, has_size, passed, headed, rewritten, is_i32, holds_flag, content_of, payload_of, slice_value};
 ghost use Rattle.link_entries.specs.Stored.{padded, sized, StoresAt, StoresPayload};
 
 use crate::entry::Entry;
@@ -20,7 +20,7 @@ use link_base::classes::peer::PEER_HEADER;
 use link_base::rows::form::{Order, Width};
 use link_base::{MAX_PAYLOAD, NLA_TYPE_MASK, VlanProtocol};
 
-/// Stores the payload that an entry of type `of_kind` spells, without elements, after the place of its header, and its
+/// Stores the payload that an entry of type `of_kind` encodes to, without elements, after the place of its header, and its
 /// padding. Returns its length. `octets` has the bytes that the entry refers to.
 ///
 /// # Errors
@@ -80,7 +80,7 @@ pub(crate) fn form_in(fields: Fields) -> u8
     }
 }
 
-/// Stores the payload that an entry of the right form spells, as [`put_payload`] does.
+/// Stores the payload that an entry of the right form encodes to, as [`put_payload`] does.
 ///
 /// # Errors
 ///
@@ -397,7 +397,7 @@ pub fn has_size(size: Option<usize>, entry: &Entry) -> bool
 ///
 /// `BadOctets` if they are not `size`, or not within `octets`; `TooLong` if they do not fit in an attribute.
 pub fn passed<'a>(size: Option<usize>, entry: &Entry, octets: &'a [u8]) -> Result<&'a [u8], Misfit>
-    ensures value { slice_told result ≡ passed size entry.now octets.now }
+    ensures value { slice_value result ≡ passed size entry.now octets.now }
     ensures short { IfOk result (λ p. length p.now ≤ max_payload) }
     ensures size { IfOk result (λ p. IfSome size (λ n. length p.now ≡ n)) }
 {

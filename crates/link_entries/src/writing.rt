@@ -2,11 +2,11 @@
 
 ghost use Rattle.std.specs.Prelude.{◌≡◌};
 ghost use Rattle.netlink_packet_route.specs.Family.{table_of};
-ghost use Rattle.link_entries.specs.Spelled.{spelled_by, measured, Stores};
+ghost use Rattle.link_entries.specs.Encoded.{encoded_by, measured, Stores};
 
+use crate::encoding::{begins_well, encode};
 use crate::entry::Entry;
 use crate::misfit::{Misfit, MisfitAt};
-use crate::spelling::{begins_well, spell};
 use netlink_packet_route::Family;
 
 /// Returns the length of the list that `write` writes, in bytes; saturates at `usize::MAX`. Nothing is allocated.
@@ -15,7 +15,7 @@ use netlink_packet_route::Family;
 ///
 /// The first entry that cannot be written.
 pub fn measure(family: Family, entries: &[Entry], octets: &[u8]) -> Result<usize, MisfitAt>
-    ensures { result ≡ measured (spelled_by (table_of family) octets.now entries.now) }
+    ensures { result ≡ measured (encoded_by (table_of family) octets.now entries.now) }
 {
     if !begins_well(entries) {
         return Err(MisfitAt {
@@ -23,10 +23,10 @@ pub fn measure(family: Family, entries: &[Entry], octets: &[u8]) -> Result<usize
             misfit: Misfit::BadElement,
         });
     }
-    spell(family, entries, octets, &mut [])
+    encode(family, entries, octets, &mut [])
 }
 
-/// Writes the list that entries spell to the start of `out`. Entries may refer to `octets`. Returns the number of bytes
+/// Writes entries as a list to the start of `out`. Entries may refer to `octets`. Returns the number of bytes
 /// written, or `None` if `out` is too small. Nothing is allocated.
 ///
 /// # Errors
@@ -38,12 +38,12 @@ pub fn write(
     octets: &[u8],
     out: &mut [u8],
 ) -> Result<Option<usize>, MisfitAt>
-    ensures { Stores (spelled_by (table_of family) octets.now entries.now) out.old out.new result }
+    ensures { Stores (encoded_by (table_of family) octets.now entries.now) out.old out.new result }
 {
     // Before anything is stored: `out` is unchanged if an entry cannot be written.
     match measure(family, entries, octets) {
         Ok(len) if len > out.len() => Ok(None),
-        Ok(_) => match spell(family, entries, octets, out) {
+        Ok(_) => match encode(family, entries, octets, out) {
             Ok(len) => Ok(Some(len)),
             Err(first) => Err(first),
         },

@@ -31,13 +31,13 @@ ip_of_sixteen p h = cond-false _ _ _ (ap (λ n. n == 4) h) ∙ cond-true _ _ _ (
 pub one_line : (old new : Option (List ℕ)) (j : Json) → Appends old new (document_line j) → Appends old new (flat_map document_line (j ∷ []))
 one_line old new j h = subst (Appends old new) (sym (append-nil (document_line j))) h
 
--- the line of a document, on a sheet that was empty
+-- the line of a document that was empty before
 pub empty_line : (old new : Option (List ℕ)) (before after : List Token) (j : Json) → before ≡ [] → after ≡ before ++ json_tokens j → Appends old new (print after ++ 10 ∷ []) → Appends old new (document_line j)
 empty_line old new before after j empty stored written = subst (λ t. Appends old new (print t ++ 10 ∷ [])) (stored ∙ ap (λ t. t ++ json_tokens j) empty) written
 
 -- likewise, as the only one
-pub sheet_line : (old new : Option (List ℕ)) (before after : List Token) (j : Json) → before ≡ [] → after ≡ before ++ json_tokens j → Appends old new (print after ++ 10 ∷ []) → Appends old new (flat_map document_line (j ∷ []))
-sheet_line old new before after j empty stored written = one_line old new j (empty_line old new before after j empty stored written)
+pub cleared_line : (old new : Option (List ℕ)) (before after : List Token) (j : Json) → before ≡ [] → after ≡ before ++ json_tokens j → Appends old new (print after ++ 10 ∷ []) → Appends old new (flat_map document_line (j ∷ []))
+cleared_line old new before after j empty stored written = one_line old new j (empty_line old new before after j empty stored written)
 
 -- the lines of documents were written
 abbrev pub Prints : Option (List ℕ) → Option (List ℕ) → List Json → Type 0

@@ -100,13 +100,13 @@ module _ (place : List Field) where
   says m {other = other} {well = well} is e f h =
       whole (message_fields m ++ other) (is ∙ ap (λ body. whole_document place (message_fields m ++ body) well) e) f (λ d. fields_both (message_fields m) other (message_sound m) (h d))
 
-  told : (m : Message) (j : Json) (body : List Field) (well said : Bool) (a : Acknowledgement) → j ≡ whole_document place (message_fields m ++ body) well → shows_said said a body well → IsDocument place j well
-  told m j body well true a is (reply, shown, e) = says m is e refl (λ d. field_sound (reply_sound a reply well shown) no_fields)
-  told m j body well false a is (e, w) = says m is e refl (λ d. no_fields)
+  all_said : (m : Message) (j : Json) (body : List Field) (well said : Bool) (a : Acknowledgement) → j ≡ whole_document place (message_fields m ++ body) well → shows_said said a body well → IsDocument place j well
+  all_said m j body well true a is (reply, shown, e) = says m is e refl (λ d. field_sound (reply_sound a reply well shown) no_fields)
+  all_said m j body well false a is (e, w) = says m is e refl (λ d. no_fields)
 
   body_is : (m : Message) (j : Json) (body : List Field) (well : Bool) → j ≡ whole_document place (message_fields m ++ body) well → ShowsBody m body well → IsDocument place j well
   body_is m j body well is (Link header g has link shown e) = says m is e refl (λ d. field_sound (link_sound header _ link well shown) no_fields)
-  body_is m j body well is (Reply a t shown) = told m j body well (says_something a) a is shown
+  body_is m j body well is (Reply a t shown) = all_said m j body well (says_something a) a is shown
   body_is m j body well is (General g e w) = says m is e refl (λ d. no_fields)
   body_is m j body well is (NoLink error t g h e w) = says m is e refl (λ d. message_error_sound error)
   body_is m j body well is (NoReply error t h e w) = says m is e refl (λ d. message_error_sound error)

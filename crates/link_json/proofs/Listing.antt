@@ -11,15 +11,15 @@ use Rattle.link_base.specs.declared.wire.fault.Cause.{Cause}
 use Rattle.link_base.specs.Frame.{frame_fault}
 use Rattle.link_base.specs.Buffer.{SplitsFirst, payload_of}
 use Rattle.link_messages.specs.declared.header.LinkHeader.{LinkHeader}
-use Rattle.link_messages.specs.Shown.{Holder, Added}
+use Rattle.link_messages.specs.Shown.{Nest, Added}
 use Rattle.link_messages.specs.Walk.{Item}
 use Rattle.link_messages.proofs.Listing.{LeadTo, lead_on}
 use Rattle.link_show.proofs.Addressing.{walk_to}
 use Rattle.link_json.specs.Doc.{Field, array_of, fields_tokens, each_tokens}
 use Rattle.link_json.specs.Value.{header_fields}
-use Rattle.link_json.specs.List.{if_sized, holder_name, held_json, holder_json, held_front, holder_front, holder_back, ShowsArray, Adds, adds_none, adds_more, WritesAddresses, WritesValue}
+use Rattle.link_json.specs.List.{if_sized, nest_name, held_json, nest_json, held_front, nest_front, nest_back, ShowsArray, Adds, adds_none, adds_more, WritesAddresses, WritesValue}
 use Rattle.link_json.proofs.Objects.{array_written}
-use Rattle.link_json.proofs.Tokens.{members_spelled, items_spelled, fields_both}
+use Rattle.link_json.proofs.Tokens.{members_joined, items_joined, fields_both}
 
 pub adds_one : (old new : List Token) (j : Json) → new ≡ old ++ json_tokens j → Adds old new (j ∷ [])
 adds_one old new j written = written ∙ ap (λ t. old ++ t) (sym (append-nil (json_tokens j)))
@@ -34,28 +34,28 @@ array_shown shows old a b new well first (js, shown, written) last = (array_of j
 peer_shape : (f js : List Token) (k a z o : Token) → (f ++ k ∷ a ∷ []) ++ (js ++ z ∷ o ∷ o ∷ []) ≡ ((f ++ k ∷ ((a ∷ (js ++ z ∷ [])) ++ [])) ++ o ∷ []) ++ o ∷ []
 peer_shape f js k a z o = simp (append_assoc, append-nil)
 
-holder_shape : (old head front js back : List Token) → ((old ++ (head ++ front)) ++ js) ++ back ≡ old ++ (head ++ (front ++ (js ++ back)))
-holder_shape old head front js back = simp append_assoc
+nest_shape : (old head front js back : List Token) → ((old ++ (head ++ front)) ++ js) ++ back ≡ old ++ (head ++ (front ++ (js ++ back)))
+nest_shape old head front js back = simp append_assoc
 
 -- the value of one, without the end of the element
-held_spelled : (header : Option LinkHeader) (js : List Json) → held_front header ++ (each_tokens js ++ holder_back header) ≡ json_tokens (held_json header js) ++ end_object ∷ []
-held_spelled None js =
-    ap (λ t. begin_array ∷ t) (sym (append_assoc (each_tokens js) (end_array ∷ []) (end_object ∷ [])) ∙ ap (λ t. t ++ end_object ∷ []) (sym (items_spelled js)))
-held_spelled (Some h) js =
+held_joined : (header : Option LinkHeader) (js : List Json) → held_front header ++ (each_tokens js ++ nest_back header) ≡ json_tokens (held_json header js) ++ end_object ∷ []
+held_joined None js =
+    ap (λ t. begin_array ∷ t) (sym (append_assoc (each_tokens js) (end_array ∷ []) (end_object ∷ [])) ∙ ap (λ t. t ++ end_object ∷ []) (sym (items_joined js)))
+held_joined (Some h) js =
     let attrs : List Field = (codes "attrs", array_of js) ∷ [] in
     let f = fields_tokens (header_fields h) in
-    let array : json_tokens (array_of js) ≡ begin_array ∷ (each_tokens js ++ end_array ∷ []) = ap (λ t. begin_array ∷ t) (items_spelled js) in
-    let members = members_spelled (header_fields h ++ attrs) ∙ ap (λ t. t ++ end_object ∷ []) (fields_both (header_fields h) attrs) in
-    let spelled = ap (λ t. ((f ++ key (codes "attrs") ∷ (t ++ [])) ++ end_object ∷ []) ++ end_object ∷ []) (sym array) in
-    ap (λ t. begin_object ∷ t) (peer_shape f (each_tokens js) (key (codes "attrs")) begin_array end_array end_object ∙ spelled ∙ ap (λ t. t ++ end_object ∷ []) (sym members))
+    let array : json_tokens (array_of js) ≡ begin_array ∷ (each_tokens js ++ end_array ∷ []) = ap (λ t. begin_array ∷ t) (items_joined js) in
+    let members = members_joined (header_fields h ++ attrs) ∙ ap (λ t. t ++ end_object ∷ []) (fields_both (header_fields h) attrs) in
+    let joined = ap (λ t. ((f ++ key (codes "attrs") ∷ (t ++ [])) ++ end_object ∷ []) ++ end_object ∷ []) (sym array) in
+    ap (λ t. begin_object ∷ t) (peer_shape f (each_tokens js) (key (codes "attrs")) begin_array end_array end_object ∙ joined ∙ ap (λ t. t ++ end_object ∷ []) (sym members))
 
 -- what was written for one: its front, the elements of its list, and its back
-pub holder_written : (h : Holder) (old a b new : List Token) (js : List Json) → a ≡ old ++ holder_front h → Adds a b js → new ≡ b ++ holder_back h.header → new ≡ old ++ json_tokens (holder_json h js)
-holder_written h old a b new js first written last =
-    let head = begin_object ∷ key (codes "name") ∷ string (holder_name h.label) ∷ key (codes "value") ∷ [] in
+pub nest_written : (h : Nest) (old a b new : List Token) (js : List Json) → a ≡ old ++ nest_front h → Adds a b js → new ≡ b ++ nest_back h.header → new ≡ old ++ json_tokens (nest_json h js)
+nest_written h old a b new js first written last =
+    let head = begin_object ∷ key (codes "name") ∷ string (nest_name h.label) ∷ key (codes "value") ∷ [] in
     let front = held_front h.header in
-    let back = holder_back h.header in
-    last ∙ ap (λ t. t ++ back) (written ∙ ap (λ t. t ++ each_tokens js) first) ∙ holder_shape old head front (each_tokens js) back ∙ ap (λ t. old ++ (head ++ t)) (held_spelled h.header js)
+    let back = nest_back h.header in
+    last ∙ ap (λ t. t ++ back) (written ∙ ap (λ t. t ++ each_tokens js) first) ∙ nest_shape old head front (each_tokens js) back ∙ ap (λ t. old ++ (head ++ t)) (held_joined h.header js)
 
 -- ---- lists of addresses
 

@@ -7,7 +7,7 @@ use Rattle.json.specs.Tree.{json_tokens}
 use Rattle.link_json.specs.Doc.{Field, object_of, array_of, fields_tokens, each_tokens}
 use Rattle.link_json.specs.Message.{whole_document}
 use Rattle.link_json.proofs.Loops.{on_ok}
-use Rattle.link_json.proofs.Tokens.{members_spelled, items_spelled, fields_both}
+use Rattle.link_json.proofs.Tokens.{members_joined, items_joined, fields_both}
 
 -- a member, and more of them
 pub field_then : (old a b new : List Token) (k : List ℕ) (j : Json) (fields : List Field) → a ≡ old ++ key k ∷ [] → b ≡ a ++ json_tokens j → new ≡ b ++ fields_tokens fields
@@ -27,7 +27,7 @@ field_only old a new k j p q = field_then old a new new k j [] p q (no_field new
 
 -- an object
 pub object_written : (old a b new : List Token) (fields : List Field) → a ≡ old ++ begin_object ∷ [] → b ≡ a ++ fields_tokens fields → new ≡ b ++ end_object ∷ [] → new ≡ old ++ json_tokens (object_of fields)
-object_written old a b new fields p q r = rw (r, q, p) (simp (members_spelled fields, append_assoc))
+object_written old a b new fields p q r = rw (r, q, p) (simp (members_joined fields, append_assoc))
 
 pub object_then : {X E : Type 0} (r : Result X E) (old a b new : List Token) (fields : List Field) → a ≡ old ++ begin_object ∷ [] → b ≡ a ++ fields_tokens fields → OnOk r (new ≡ b ++ end_object ∷ [])
     → OnOk r (new ≡ old ++ json_tokens (object_of fields))
@@ -35,9 +35,9 @@ object_then r old a b new fields p q h = on_ok r (object_written old a b new fie
 
 -- an array
 pub array_written : (old a b new : List Token) (js : List Json) → a ≡ old ++ begin_array ∷ [] → b ≡ a ++ each_tokens js → new ≡ b ++ end_array ∷ [] → new ≡ old ++ json_tokens (array_of js)
-array_written old a b new js p q r = rw (r, q, p) (simp (items_spelled js, append_assoc))
+array_written old a b new js p q r = rw (r, q, p) (simp (items_joined js, append_assoc))
 
 -- a document: where it is from, what it says, and the end
 pub document_written : (old a b c new : List Token) (place fields : List Field) (well : Bool) → a ≡ old ++ begin_object ∷ [] → b ≡ a ++ fields_tokens place → c ≡ b ++ fields_tokens fields
     → new ≡ c ++ (fields_tokens ((codes "ok", boolean well) ∷ []) ++ end_object ∷ []) → new ≡ old ++ json_tokens (whole_document place fields well)
-document_written old a b c new place fields well p q r s = rw (s, r, q, p) (simp (members_spelled (place ++ (fields ++ (codes "ok", boolean well) ∷ [])), fields_both, append_assoc))
+document_written old a b c new place fields well p q r s = rw (s, r, q, p) (simp (members_joined (place ++ (fields ++ (codes "ok", boolean well) ∷ [])), fields_both, append_assoc))

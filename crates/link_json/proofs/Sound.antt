@@ -154,9 +154,9 @@ module _ {d : ℕ} where
 abbrev keys_of : List FieldRow → List (List ℕ)
 keys_of fields = map (λ f. f.name) fields
 
-keys_told : (start : ℕ) (names : List (ℕ × List ℕ)) (p : List ℕ) (fields : List FieldRow) → keys (members_of (map (field_json start names p) fields)) ≡ keys_of fields
-keys_told start names p [] = refl
-keys_told start names p (f ∷ fields) = ap (λ ks. f.name ∷ ks) (keys_told start names p fields)
+keys_shown : (start : ℕ) (names : List (ℕ × List ℕ)) (p : List ℕ) (fields : List FieldRow) → keys (members_of (map (field_json start names p) fields)) ≡ keys_of fields
+keys_shown start names p [] = refl
+keys_shown start names p (f ∷ fields) = ap (λ ks. f.name ∷ ks) (keys_shown start names p fields)
 
 module _ {d : ℕ} where
   pub role_sound : (names : List (ℕ × List ℕ)) (role : Role) (n : ℕ) → IsSound (above 2 d) (role_json names role n)
@@ -169,14 +169,14 @@ module _ {d : ℕ} where
   form_sound names (forms.Number w order role) p = role_sound names role (number_by order p)
   form_sound names form p = string_sound _
 
-  told : (start : ℕ) (names : List (ℕ × List ℕ)) (p : List ℕ) (fields : List FieldRow) → AreSound (above 2 d) (members_of (map (field_json start names p) fields))
-  told start names p [] = no_fields
-  told start names p (f ∷ fields) = field_sound (form_sound (names_for names f.names) f.form (field_in start p f)) (told start names p fields)
+  all_said : (start : ℕ) (names : List (ℕ × List ℕ)) (p : List ℕ) (fields : List FieldRow) → AreSound (above 2 d) (members_of (map (field_json start names p) fields))
+  all_said start names p [] = no_fields
+  all_said start names p (f ∷ fields) = field_sound (form_sound (names_for names f.names) f.form (field_in start p f)) (all_said start names p fields)
 
   pub object_of_fields : (fields : List FieldRow) (names : List (ℕ × List ℕ)) (p : List ℕ) → are_distinct (keys_of fields) ≡ true → IsSound (above 3 d) (object_of (fields_json fields 0 names p))
   object_of_fields fields names p e =
       cond_both (has_fields fields 0 p) (map (field_json 0 names p) fields) ((codes "hex", hex_json p) ∷ []) (λ shown. IsSound (above 3 d) (object_of shown))
-      (λ t. object_sound (ap are_distinct (keys_told 0 names p fields) ∙ e) (told 0 names p fields)) (λ t. opaque_sound p)
+      (λ t. object_sound (ap are_distinct (keys_shown 0 names p fields) ∙ e) (all_said 0 names p fields)) (λ t. opaque_sound p)
 
   pub struct_sound : (layout : Layout) (fields : List FieldRow) (names : List (ℕ × List ℕ)) (p : List ℕ) → are_distinct (keys_of fields) ≡ true → IsSound (above 3 d) (struct_json layout fields names p)
   struct_sound layouts.BridgeId fields names p e = string_sound _
@@ -185,7 +185,7 @@ module _ {d : ℕ} where
   pub limits_sound : (name p : List ℕ) → IsSound (above 3 d) (limits_json name p)
   limits_sound name p =
       cond_both (has_fields limit_fields 16 p) (map (field_json 16 [] p) limit_fields) ((codes "hex", hex_json p) ∷ []) (λ shown. IsSound (above 3 d) (object_of ((codes "name", text_json name) ∷ shown)))
-      (λ t. object_sound (ap (λ ks. are_distinct (codes "name" ∷ ks)) (keys_told 16 [] p limit_fields)) (field_sound (text_sound name) (told 16 [] p limit_fields)))
+      (λ t. object_sound (ap (λ ks. are_distinct (codes "name" ∷ ks)) (keys_shown 16 [] p limit_fields)) (field_sound (text_sound name) (all_said 16 [] p limit_fields)))
       (λ t. object_sound refl (field_sound (text_sound name) (field_sound (string_sound _) no_fields)))
 
   pub raw_sound : (f : ℕ) (p : List ℕ) → IsSound (above 3 d) (raw_json f p)

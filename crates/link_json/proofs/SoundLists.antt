@@ -19,7 +19,7 @@ use Rattle.netlink_packet_route.specs.Opening.{without_nul}
 use Rattle.link_messages.specs.declared.header.LinkHeader.{LinkHeader}
 use Rattle.link_messages.specs.Finding.{Stretch}
 use Rattle.link_messages.specs.Held.{may_hold, header_before, context_of}
-use Rattle.link_messages.specs.Shown.{Holder, holder_at, rows_in, label_for}
+use Rattle.link_messages.specs.Shown.{Nest, nest_at, rows_in, label_for}
 use Rattle.link_messages.specs.Walk.{Item}
 use Rattle.link_messages.proofs.Holds.{shows_hold}
 use Rattle.link_show.specs.Held.{is_state}
@@ -32,7 +32,7 @@ use Rattle.link_show.proofs.ValuePrinting.{IsLabelText}
 use Rattle.link_json.specs.Doc.{items_of, array_of}
 use Rattle.link_json.specs.Value.{whole_link, number_or_address, content_json, unit_of}
 use Rattle.link_json.specs.Link.{ShowsLink}
-use Rattle.link_json.specs.List.{ShowsFlat, ShowsPlain, shows_leaf, held_json, holder_json, elements, ShowsList, if_sized}
+use Rattle.link_json.specs.List.{ShowsFlat, ShowsPlain, shows_leaf, held_json, nest_json, elements, ShowsList, if_sized}
 use Rattle.link_json.proofs.Keys.{are_distinct}
 use Rattle.link_json.proofs.PlaceKeys.{IsKeyed, keyed}
 use Rattle.link_json.proofs.Sound.{IsSound, EachSound, above, no_fields, field_sound, no_values, value_sound, object_sound, values_both, one_sound, array_sound, deeper_sound, string_sound, boolean_sound, number_sound, signed_sound, opaque_sound, text_sound, named_sound, flags_sound, array_of_numbers, object_of_fields, struct_sound, limits_sound, element_sound, raw_sound, error_sound, role_sound}
@@ -99,10 +99,10 @@ module _ {d : ℕ} where
   held_sound (Some h) js each = whole_sound h js (deeper_sound (omega arith) each)
 
   -- one that may be a peer, and one that is none
-  holder_sound : (h : Holder) (js : List Json) → EachSound d (items_of js) → IsSound (above 4 d) (holder_json h js)
-  holder_sound h js each = element_sound _ _ None (string_sound _) (held_sound h.header js (array_sound each))
+  nest_sound : (h : Nest) (js : List Json) → EachSound d (items_of js) → IsSound (above 4 d) (nest_json h js)
+  nest_sound h js each = element_sound _ _ None (string_sound _) (held_sound h.header js (array_sound each))
 
-  no_peer_sound : (h : Holder) (js : List Json) → h.header ≡ None → EachSound d (items_of js) → IsSound (above 2 d) (holder_json h js)
+  no_peer_sound : (h : Nest) (js : List Json) → h.header ≡ None → EachSound d (items_of js) → IsSound (above 2 d) (nest_json h js)
   no_peer_sound h js none each = element_sound _ _ None (string_sound _) (subst (λ o. IsSound (suc d) (held_json o js)) (sym none) (array_sound each))
 
 inner_header : (k : ℕ) (content : Content) (p : List ℕ) → may_hold (Some k) content ≡ true → header_before content p ≡ None
@@ -121,10 +121,10 @@ least_deep d None n = omega arith
 least_deep d (Some k) n = omega arith
 
 opened_sound : (d n at : ℕ) (family : Family) (k : Option ℕ) (set : Family) (b : NlaBuffer) (content : Content) (inner js : List Json) → may_hold k content ≡ true → EachSound (deep d None n) (items_of inner)
-    → js ≡ holder_json (holder_at family k (Some set) at b content) inner ∷ [] → EachSound (deep d k (suc n)) (items_of js)
-opened_sound d n at family None set b content inner js may held e = one_sound (omega arith) e (holder_sound (holder_at family None (Some set) at b content) inner held)
+    → js ≡ nest_json (nest_at family k (Some set) at b content) inner ∷ [] → EachSound (deep d k (suc n)) (items_of js)
+opened_sound d n at family None set b content inner js may held e = one_sound (omega arith) e (nest_sound (nest_at family None (Some set) at b content) inner held)
 opened_sound d n at family (Some k) set b content inner js may held e =
-    one_sound (omega arith) e (no_peer_sound (holder_at family (Some k) (Some set) at b content) inner (inner_header k content (payload_of b) may) held)
+    one_sound (omega arith) e (no_peer_sound (nest_at family (Some k) (Some set) at b content) inner (inner_header k content (payload_of b) may) held)
 
 module _ {d : ℕ} where
   -- the elements for a list, which opens six levels
@@ -137,7 +137,7 @@ module _ {d : ℕ} where
       (λ n context level family k b content js has (j, shown, e).
       one_sound (least_deep d k n) e (leaf_sound (is_state context family k b) (label_for (rows_in family k) b) b content j (rows_text family k b) (keyed family k b content has) shown))
       (λ n level at family k set b content inner whole js well may held around. opened_sound d n at family k set b content inner js may held around.0)
-      (λ n level at family k b list flagged inner whole js well held around. one_sound (omega arith) around.0 (no_peer_sound (holder_at family None None at b (contents.List list flagged)) inner refl held))
+      (λ n level at family k b list flagged inner whole js well held around. one_sound (omega arith) around.0 (no_peer_sound (nest_at family None None at b (contents.List list flagged)) inner refl held))
       6 (context_of address_family) 0 family (base, list) js whole s)
 
   pub link_sound : (h : LinkHeader) (list : Stretch) (j : Json) (well : Bool) → ShowsLink h list j well → IsSound (above 32 d) j

@@ -17,7 +17,7 @@ use Rattle.netlink_packet_route.specs.declared.family.Family.{Family}
 use Rattle.netlink_packet_route.specs.Family.{table_of}
 use Rattle.link_messages.specs.declared.header.LinkHeader.{LinkHeader}
 use Rattle.link_messages.specs.Held.{levels, context_of}
-use Rattle.link_messages.specs.Shown.{Holder, Display, Shows, rows_in, label_for}
+use Rattle.link_messages.specs.Shown.{Nest, Display, Shows, rows_in, label_for}
 use Rattle.link_messages.specs.Walk.{Item, Walk}
 use Rattle.link_show.specs.Fault.{fault_text}
 use Rattle.link_show.specs.Held.{is_state, state_names}
@@ -66,17 +66,17 @@ shows_leaf false label b content j = ShowsPlain label b content j
 -- ---- attributes that hold lists
 
 -- the name of an attribute that holds a list; one without a row is an IFLA_PROTINFO
-abbrev pub holder_name : Option Label → List ℕ
-holder_name None = codes "protinfo"
-holder_name (Some label) = short_name label.prefix label.name
+abbrev pub nest_name : Option Label → List ℕ
+nest_name None = codes "protinfo"
+nest_name (Some label) = short_name label.prefix label.name
 
 -- the value of one: the array of what is in the list; in a peer, a link with that
 abbrev pub held_json : Option LinkHeader → List Json → Json
 held_json None js = array_of js
 held_json (Some header) js = whole_link header js
 
-abbrev pub holder_json : Holder → List Json → Json
-holder_json h js = element_json (string (holder_name h.label)) (held_json h.header js) []
+abbrev pub nest_json : Nest → List Json → Json
+nest_json h js = element_json (string (nest_name h.label)) (held_json h.header js) []
 
 -- ---- lists
 
@@ -86,7 +86,7 @@ elements = record {
   omits = λ context family kind. false;
   error = λ level family at fault. fault_json at (fault_text (table_of family) fault) ∷ [];
   leaf = λ context level family k b content js. (j : Json) × shows_leaf (is_state context family k b) (label_for (rows_in family k) b) b content j × (js ≡ j ∷ []);
-  around = λ level h inner whole js well. (js ≡ holder_json h inner ∷ []) × (well ≡ whole);
+  around = λ level h inner whole js well. (js ≡ nest_json h inner ∷ []) × (well ≡ whole);
 }
 
 -- the elements for a list in a message of this address family; 0 if it is in none
@@ -130,9 +130,9 @@ abbrev pub held_front : Option LinkHeader → List Token
 held_front None = token.begin_array ∷ []
 held_front (Some header) = token.begin_object ∷ (fields_tokens (header_fields header) ++ token.key (codes "attrs") ∷ token.begin_array ∷ [])
 
-abbrev pub holder_front : Holder → List Token
-holder_front h = token.begin_object ∷ token.key (codes "name") ∷ token.string (holder_name h.label) ∷ token.key (codes "value") ∷ held_front h.header
+abbrev pub nest_front : Nest → List Token
+nest_front h = token.begin_object ∷ token.key (codes "name") ∷ token.string (nest_name h.label) ∷ token.key (codes "value") ∷ held_front h.header
 
-abbrev pub holder_back : Option LinkHeader → List Token
-holder_back None = token.end_array ∷ token.end_object ∷ []
-holder_back (Some header) = token.end_array ∷ token.end_object ∷ token.end_object ∷ []
+abbrev pub nest_back : Option LinkHeader → List Token
+nest_back None = token.end_array ∷ token.end_object ∷ []
+nest_back (Some header) = token.end_array ∷ token.end_object ∷ token.end_object ∷ []

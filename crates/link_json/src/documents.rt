@@ -1,4 +1,4 @@
-//! Documents on a sheet.
+//! The documents of messages.
 
 ghost use Rattle.std.specs.Prelude.{◌≡◌, ◌++◌, ◌∷◌, [], true, false, OnOk, IfOk, codes};
 ghost use Rattle.json.specs.Json.{boolean};
@@ -10,12 +10,12 @@ ghost use Rattle.link_json.specs.Doc.{fields_tokens};
 ghost use Rattle.link_json.specs.Message.{ShowsDocument, ShowsBody, WritesFields, message_error, message_fields, whole_document};
 ghost use Rattle.link_json.specs.List.{WritesValue};
 
+use crate::document::Document;
 use crate::links::write_link;
 use crate::numbers::{write_enum, write_flags};
 use crate::parts::write_number_field;
 use crate::place::Place;
 use crate::replies::write_reply;
-use crate::sheet::Sheet;
 use link_messages::message_types::{NLMSG_DONE, NLMSG_ERROR};
 use link_messages::{Message, MessageError, is_any_link_type, link_header, read_acknowledgement};
 use link_show::message_names::{MESSAGE_TYPES, flag_names};
@@ -23,122 +23,122 @@ use link_show::{is_general, offset_of};
 use std::alloc::AllocError;
 
 /// Writes a document that only says where it is from.
-pub(crate) fn store_empty<P: Place>(sheet: &mut Sheet, place: &P) -> Result<(), AllocError>
-    ensures { OnOk result (sheet.new ≡ sheet.old ++ json_tokens (whole_document (P.fields place.now) [] true)) }
+pub(crate) fn store_empty<P: Place>(doc: &mut Document, place: &P) -> Result<(), AllocError>
+    ensures { OnOk result (doc.new ≡ doc.old ++ json_tokens (whole_document (P.fields place.now) [] true)) }
 {
-    sheet.begin_object()?;
-    place.write_fields(sheet)?;
-    end_document(sheet, true)
+    doc.begin_object()?;
+    place.write_fields(doc)?;
+    end_document(doc, true)
 }
 
 /// Writes a document with an error.
 pub(crate) fn store_error<P: Place>(
-    sheet: &mut Sheet,
+    doc: &mut Document,
     place: &P,
     error: MessageError,
 ) -> Result<(), AllocError>
-    ensures { OnOk result (sheet.new ≡ sheet.old
+    ensures { OnOk result (doc.new ≡ doc.old
         ++ json_tokens (whole_document (P.fields place.now) (message_error error ∷ []) false)) }
 {
-    sheet.begin_object()?;
-    place.write_fields(sheet)?;
-    write_message_error(sheet, error)?;
-    end_document(sheet, false)
+    doc.begin_object()?;
+    place.write_fields(doc)?;
+    write_message_error(doc, error)?;
+    end_document(doc, false)
 }
 
 /// Writes the document of a message. Returns whether it has no error.
 pub(crate) fn store_message<P: Place>(
-    sheet: &mut Sheet,
+    doc: &mut Document,
     place: &P,
     message: &Message<'_>,
 ) -> Result<bool, AllocError>
-    ensures { IfOk result (WritesValue (ShowsDocument (P.fields place.now) message.now) sheet.old sheet.new) }
+    ensures { IfOk result (WritesValue (ShowsDocument (P.fields place.now) message.now) doc.old doc.new) }
 {
-    sheet.begin_object()?;
-    place.write_fields(sheet)?;
-    write_message_fields(sheet, message)?;
-    let well = write_body(sheet, message)?;
-    end_document(sheet, well)?;
+    doc.begin_object()?;
+    place.write_fields(doc)?;
+    write_message_fields(doc, message)?;
+    let well = write_body(doc, message)?;
+    end_document(doc, well)?;
     Ok(well)
 }
 
 /// Writes the last member of a document, and ends it.
-pub(crate) fn end_document(sheet: &mut Sheet, well: bool) -> Result<(), AllocError>
-    ensures { OnOk result (sheet.new ≡ sheet.old
+pub(crate) fn end_document(doc: &mut Document, well: bool) -> Result<(), AllocError>
+    ensures { OnOk result (doc.new ≡ doc.old
         ++ (fields_tokens ((codes "ok", boolean well) ∷ []) ++ end_object ∷ [])) }
 {
-    sheet.key("ok")?;
-    sheet.boolean(well)?;
-    sheet.end_object()
+    doc.key("ok")?;
+    doc.boolean(well)?;
+    doc.end_object()
 }
 
 /// Writes the fields of a `struct nlmsghdr`.
-fn write_message_fields(sheet: &mut Sheet, message: &Message<'_>) -> Result<(), AllocError>
-    ensures { OnOk result (sheet.new ≡ sheet.old ++ fields_tokens (message_fields message.now)) }
+fn write_message_fields(doc: &mut Document, message: &Message<'_>) -> Result<(), AllocError>
+    ensures { OnOk result (doc.new ≡ doc.old ++ fields_tokens (message_fields message.now)) }
 {
     let length = 16 + message.payload.len();
-    write_number_field(sheet, "len", length as u64)?;
-    sheet.key("type")?;
-    write_enum(sheet, MESSAGE_TYPES, message.kind as u64)?;
-    sheet.key("flags")?;
-    write_flags(sheet, flag_names(message.kind), message.flags as u64)?;
-    write_number_field(sheet, "seq", message.sequence as u64)?;
-    write_number_field(sheet, "pid", message.port as u64)
+    write_number_field(doc, "len", length as u64)?;
+    doc.key("type")?;
+    write_enum(doc, MESSAGE_TYPES, message.kind as u64)?;
+    doc.key("flags")?;
+    write_flags(doc, flag_names(message.kind), message.flags as u64)?;
+    write_number_field(doc, "seq", message.sequence as u64)?;
+    write_number_field(doc, "pid", message.port as u64)
 }
 
 /// Writes what a message is, besides its header. Returns whether it has no error.
-fn write_body(sheet: &mut Sheet, message: &Message<'_>) -> Result<bool, AllocError>
-    ensures { IfOk result (WritesFields (ShowsBody message.now) sheet.old sheet.new) }
+fn write_body(doc: &mut Document, message: &Message<'_>) -> Result<bool, AllocError>
+    ensures { IfOk result (WritesFields (ShowsBody message.now) doc.old doc.new) }
 {
     match message.kind {
-        NLMSG_ERROR | NLMSG_DONE => write_acknowledgement(sheet, message),
-        kind if is_any_link_type(kind) => write_about_link(sheet, message),
+        NLMSG_ERROR | NLMSG_DONE => write_acknowledgement(doc, message),
+        kind if is_any_link_type(kind) => write_about_link(doc, message),
         _ => Ok(true),
     }
 }
 
 /// Writes a message about a link. A request in the general form has no more members.
-fn write_about_link(sheet: &mut Sheet, message: &Message<'_>) -> Result<bool, AllocError>
+fn write_about_link(doc: &mut Document, message: &Message<'_>) -> Result<bool, AllocError>
     requires { IsAnyLinkType message.now.kind }
-    ensures { IfOk result (WritesFields (ShowsBody message.now) sheet.old sheet.new) }
+    ensures { IfOk result (WritesFields (ShowsBody message.now) doc.old doc.new) }
 {
     if is_general(message) {
         return Ok(true);
     }
     match link_header(message) {
         Ok((header, list)) => {
-            sheet.key("link")?;
-            write_link(sheet, &header, list)
+            doc.key("link")?;
+            write_link(doc, &header, list)
         }
         Err(error) => {
-            write_message_error(sheet, error)?;
+            write_message_error(doc, error)?;
             Ok(false)
         }
     }
 }
 
 /// Writes an NLMSG_ERROR or an NLMSG_DONE.
-fn write_acknowledgement(sheet: &mut Sheet, message: &Message<'_>) -> Result<bool, AllocError>
+fn write_acknowledgement(doc: &mut Document, message: &Message<'_>) -> Result<bool, AllocError>
     requires { IsReplyType message.now.kind }
-    ensures { IfOk result (WritesFields (ShowsBody message.now) sheet.old sheet.new) }
+    ensures { IfOk result (WritesFields (ShowsBody message.now) doc.old doc.new) }
 {
     match read_acknowledgement(message) {
-        Ok(reply) => write_reply(sheet, &reply),
+        Ok(reply) => write_reply(doc, &reply),
         Err(error) => {
-            write_message_error(sheet, error)?;
+            write_message_error(doc, error)?;
             Ok(false)
         }
     }
 }
 
 /// Writes the member for an error of a message.
-pub(crate) fn write_message_error(sheet: &mut Sheet, error: MessageError) -> Result<(), AllocError>
-    ensures { OnOk result (sheet.new ≡ sheet.old ++ fields_tokens (message_error error ∷ [])) }
+pub(crate) fn write_message_error(doc: &mut Document, error: MessageError) -> Result<(), AllocError>
+    ensures { OnOk result (doc.new ≡ doc.old ++ fields_tokens (message_error error ∷ [])) }
 {
-    sheet.key("error")?;
-    sheet.begin_object()?;
-    write_number_field(sheet, "at", offset_of(error) as u64)?;
-    sheet.key("text")?;
-    sheet.reason(error)?;
-    sheet.end_object()
+    doc.key("error")?;
+    doc.begin_object()?;
+    write_number_field(doc, "at", offset_of(error) as u64)?;
+    doc.key("text")?;
+    doc.reason(error)?;
+    doc.end_object()
 }

@@ -5,14 +5,14 @@ ghost use Rattle.json.specs.Token.{string};
 ghost use Rattle.json.specs.Tree.{json_tokens};
 ghost use Rattle.link_base.specs.Buffer.{payload_of};
 ghost use Rattle.link_base.specs.Labels.{label_in, label_of};
-ghost use Rattle.link_messages.specs.Shown.{holder_of};
+ghost use Rattle.link_messages.specs.Shown.{nest_of};
 ghost use Rattle.link_json.specs.Doc.{each_tokens};
-ghost use Rattle.link_json.specs.List.{ShowsFlat, ShowsPlain, holder_name, held_front, holder_front, holder_back, shows_leaf, state_json, if_sized};
+ghost use Rattle.link_json.specs.List.{ShowsFlat, ShowsPlain, nest_name, held_front, nest_front, nest_back, shows_leaf, state_json, if_sized};
 ghost use Rattle.link_json.specs.List.{WritesOne, WritesAddresses};
 
+use crate::document::Document;
 use crate::links::write_link_header;
 use crate::numbers::write_enum;
-use crate::sheet::Sheet;
 use crate::values::{write_content, write_unit, write_unnamed};
 use link_base::rows::label::KindLabel;
 use link_base::views::content::{Content, Known};
@@ -22,147 +22,147 @@ use netlink_packet_route::link::BridgePortState;
 use std::alloc::AllocError;
 
 /// Begins an attribute that holds a list: writes its name, and begins its value.
-pub(crate) fn begin_holder(sheet: &mut Sheet, held: &HeldList<'_>) -> Result<(), AllocError>
-    ensures { OnOk result (sheet.new ≡ sheet.old ++ holder_front (holder_of held.now)) }
+pub(crate) fn begin_nest(doc: &mut Document, held: &HeldList<'_>) -> Result<(), AllocError>
+    ensures { OnOk result (doc.new ≡ doc.old ++ nest_front (nest_of held.now)) }
 {
-    sheet.begin_object()?;
-    sheet.key("name")?;
-    write_holder_name(sheet, held.label)?;
-    sheet.key("value")?;
-    begin_held(sheet, held.header)
+    doc.begin_object()?;
+    doc.key("name")?;
+    write_nest_name(doc, held.label)?;
+    doc.key("value")?;
+    begin_held(doc, held.header)
 }
 
 /// Begins the array of a list, in a peer behind its header.
-fn begin_held(sheet: &mut Sheet, header: Option<LinkHeader>) -> Result<(), AllocError>
-    ensures { OnOk result (sheet.new ≡ sheet.old ++ held_front header) }
+fn begin_held(doc: &mut Document, header: Option<LinkHeader>) -> Result<(), AllocError>
+    ensures { OnOk result (doc.new ≡ doc.old ++ held_front header) }
 {
     match header {
         Some(header) => {
-            sheet.begin_object()?;
-            write_link_header(sheet, &header)?;
-            sheet.key("attrs")?;
-            sheet.begin_array()
+            doc.begin_object()?;
+            write_link_header(doc, &header)?;
+            doc.key("attrs")?;
+            doc.begin_array()
         }
-        None => sheet.begin_array(),
+        None => doc.begin_array(),
     }
 }
 
 /// Ends an attribute that holds a list.
-pub(crate) fn end_holder(sheet: &mut Sheet, header: Option<LinkHeader>) -> Result<(), AllocError>
-    ensures { OnOk result (sheet.new ≡ sheet.old ++ holder_back header) }
+pub(crate) fn end_nest(doc: &mut Document, header: Option<LinkHeader>) -> Result<(), AllocError>
+    ensures { OnOk result (doc.new ≡ doc.old ++ nest_back header) }
 {
-    sheet.end_array()?;
+    doc.end_array()?;
     match header {
         Some(_) => {
-            sheet.end_object()?;
-            sheet.end_object()
+            doc.end_object()?;
+            doc.end_object()
         }
-        None => sheet.end_object(),
+        None => doc.end_object(),
     }
 }
 
 /// Writes the name of an attribute that holds a list. One without a row is an `IFLA_PROTINFO`.
-fn write_holder_name(sheet: &mut Sheet, label: &Option<KindLabel>) -> Result<(), AllocError>
-    ensures { OnOk result (sheet.new ≡ sheet.old ++ string (holder_name (label_in label.now)) ∷ []) }
+fn write_nest_name(doc: &mut Document, label: &Option<KindLabel>) -> Result<(), AllocError>
+    ensures { OnOk result (doc.new ≡ doc.old ++ string (nest_name (label_in label.now)) ∷ []) }
 {
     match label {
-        Some(label) => sheet.short_name(label.prefix, label.name),
-        None => sheet.string("protinfo"),
+        Some(label) => doc.short_name(label.prefix, label.name),
+        None => doc.string("protinfo"),
     }
 }
 
 /// Writes an attribute that holds no list: the STP state of a bridge port in an `IFLA_PROTINFO`, or another one.
 pub(crate) fn write_leaf(
-    sheet: &mut Sheet,
+    doc: &mut Document,
     is_state: bool,
     known: &Known<'_>,
     buffer: NlaBuffer<'_>,
 ) -> Result<(), AllocError>
     requires { IsTrue is_state → length (payload_of buffer) ≡ 1 }
-    ensures { OnOk result (WritesOne (shows_leaf is_state (label_in known.now.label) buffer.entry known.now.content) sheet.old sheet.new) }
+    ensures { OnOk result (WritesOne (shows_leaf is_state (label_in known.now.label) buffer.entry known.now.content) doc.old doc.new) }
 {
     if is_state {
-        return write_state(sheet, buffer.value()[0]);
+        return write_state(doc, buffer.value()[0]);
     }
-    write_plain(sheet, known, buffer)
+    write_plain(doc, known, buffer)
 }
 
 /// Writes an `IFLA_PROTINFO` that is the STP state of a bridge port.
-fn write_state(sheet: &mut Sheet, state: u8) -> Result<(), AllocError>
-    ensures { OnOk result (sheet.new ≡ sheet.old ++ json_tokens (state_json (state ∷ []))) }
+fn write_state(doc: &mut Document, state: u8) -> Result<(), AllocError>
+    ensures { OnOk result (doc.new ≡ doc.old ++ json_tokens (state_json (state ∷ []))) }
 {
-    sheet.begin_object()?;
-    sheet.key("name")?;
-    sheet.string("protinfo")?;
-    sheet.key("value")?;
-    write_enum(sheet, BridgePortState::names(), state.into())?;
-    sheet.end_object()
+    doc.begin_object()?;
+    doc.key("name")?;
+    doc.string("protinfo")?;
+    doc.key("value")?;
+    write_enum(doc, BridgePortState::names(), state.into())?;
+    doc.end_object()
 }
 
 /// Writes an attribute that holds no list: by its label, or by its number, if it has none.
 fn write_plain(
-    sheet: &mut Sheet,
+    doc: &mut Document,
     known: &Known<'_>,
     buffer: NlaBuffer<'_>,
 ) -> Result<(), AllocError>
-    ensures { OnOk result (WritesOne (ShowsPlain (label_in known.now.label) buffer.entry known.now.content) sheet.old sheet.new) }
+    ensures { OnOk result (WritesOne (ShowsPlain (label_in known.now.label) buffer.entry known.now.content) doc.old doc.new) }
 {
     match &known.label {
-        Some(label) => write_labelled(sheet, label, buffer, known.content),
-        None => write_unnamed(sheet, buffer),
+        Some(label) => write_labelled(doc, label, buffer, known.content),
+        None => write_unnamed(doc, buffer),
     }
 }
 
 /// Writes an attribute with this label and this content.
 fn write_labelled(
-    sheet: &mut Sheet,
+    doc: &mut Document,
     label: &KindLabel,
     buffer: NlaBuffer<'_>,
     content: Content<'_>,
 ) -> Result<(), AllocError>
-    ensures { OnOk result (WritesOne (ShowsPlain (Some (label_of label.now)) buffer.entry content.entry) sheet.old sheet.new) }
+    ensures { OnOk result (WritesOne (ShowsPlain (Some (label_of label.now)) buffer.entry content.entry) doc.old doc.new) }
 {
-    sheet.begin_object()?;
-    sheet.key("name")?;
-    sheet.short_name(label.prefix, label.name)?;
-    sheet.key("value")?;
-    write_flat(sheet, label, content)?;
-    write_unit(sheet, label.quantity)?;
-    sheet.end_object()
+    doc.begin_object()?;
+    doc.key("name")?;
+    doc.short_name(label.prefix, label.name)?;
+    doc.key("value")?;
+    write_flat(doc, label, content)?;
+    write_unit(doc, label.quantity)?;
+    doc.end_object()
 }
 
 /// Writes the value of an attribute that holds no list of attributes with values.
-fn write_flat(sheet: &mut Sheet, label: &KindLabel, content: Content<'_>) -> Result<(), AllocError>
-    ensures { OnOk result (WritesOne (ShowsFlat (label_of label.now) content.entry) sheet.old sheet.new) }
+fn write_flat(doc: &mut Document, label: &KindLabel, content: Content<'_>) -> Result<(), AllocError>
+    ensures { OnOk result (WritesOne (ShowsFlat (label_of label.now) content.entry) doc.old doc.new) }
 {
     match content {
         Content::Addresses { list, size } => {
-            sheet.begin_array()?;
-            write_addresses(sheet, list, size)?;
-            sheet.end_array()
+            doc.begin_array()?;
+            write_addresses(doc, list, size)?;
+            doc.end_array()
         }
-        _ => write_content(sheet, label, content),
+        _ => write_content(doc, label, content),
     }
 }
 
 /// Writes the addresses of `size` bytes in a list.
-fn write_addresses(sheet: &mut Sheet, list: &[u8], size: usize) -> Result<(), AllocError>
-    ensures { OnOk result (WritesAddresses size list.now sheet.old sheet.new) }
+fn write_addresses(doc: &mut Document, list: &[u8], size: usize) -> Result<(), AllocError>
+    ensures { OnOk result (WritesAddresses size list.now doc.old doc.new) }
 {
     let mut rest = list;
     while let Ok((attribute, after)) = NlaBuffer::split_first(rest) {
-        write_address_of(sheet, attribute.value(), size)?;
+        write_address_of(doc, attribute.value(), size)?;
         rest = after;
     }
     Ok(())
 }
 
 /// Writes an IP address, if it has `size` bytes.
-fn write_address_of(sheet: &mut Sheet, address: &[u8], size: usize) -> Result<(), AllocError>
-    ensures { OnOk result (sheet.new ≡ sheet.old ++ each_tokens (if_sized size address.now)) }
+fn write_address_of(doc: &mut Document, address: &[u8], size: usize) -> Result<(), AllocError>
+    ensures { OnOk result (doc.new ≡ doc.old ++ each_tokens (if_sized size address.now)) }
 {
     if address.len() != size {
         return Ok(());
     }
-    sheet.ip(address)
+    doc.ip(address)
 }

@@ -6,11 +6,11 @@ ghost use Rattle.json.specs.Tree.{json_tokens};
 ghost use Rattle.netlink_packet_route.specs.Family.{table_of};
 ghost use Rattle.link_show.specs.Fault.{fault_text};
 ghost use Rattle.link_json.specs.Doc.{error_json};
-ghost use Rattle.link_json.specs.List.{elements, ShowsList, ShowsArray, fault_json, holder_front, Adds, adds_none, adds_more, WritesValue};
+ghost use Rattle.link_json.specs.List.{elements, ShowsList, ShowsArray, fault_json, nest_front, Adds, adds_none, adds_more, WritesValue};
 
-use crate::elements::{begin_holder, end_holder, write_leaf};
+use crate::document::Document;
+use crate::elements::{begin_nest, end_nest, write_leaf};
 use crate::parts::write_number_field;
-use crate::sheet::Sheet;
 use link_base::views::content::Known;
 use link_base::{DecodeFault, NlaBuffer};
 use link_messages::{HeldList, ListVisitor, MOST_LEVELS, Payload, visit_list};
@@ -23,26 +23,18 @@ use std::alloc::AllocError;
 /// that of the message, which decides which set reads some lists; 0 for a list that is in no message. Offsets of errors count
 /// from the offset of `list`. Returns whether no element is an error.
 pub(crate) fn write_array(
-    sheet: &mut Sheet,
+    doc: &mut Document,
     address_family: u8,
     family: Family,
     list: Payload<'_>,
 ) -> Result<bool, AllocError>
     ensures { IfOk result (WritesValue (ShowsArray (ShowsList address_family family list.entry.at list.entry.bytes.now))
-        sheet.old sheet.new) }
+        doc.old doc.new) }
 {
     let context = Context::of_message(address_family);
-    sheet.begin_array()?;
-    let well = visit_list(
-        &ElementVisitor,
-        sheet,
-        MOST_LEVELS,
-        &context,
-        0,
-        family,
-        list,
-    )?;
-    sheet.end_array()?;
+    doc.begin_array()?;
+    let well = visit_list(&ElementVisitor, doc, MOST_LEVELS, &context, 0, family, list)?;
+    doc.end_array()?;
     Ok(well)
 }
 
@@ -50,7 +42,7 @@ pub(crate) fn write_array(
 #[derive(Clone, Copy)]
 struct ElementVisitor;
 
-impl ListVisitor<Sheet> for ElementVisitor {
+impl ListVisitor<Document> for ElementVisitor {
     type Error = AllocError;
 
     ghost Piece = { Json };
@@ -59,7 +51,7 @@ impl ListVisitor<Sheet> for ElementVisitor {
 
     ghost adds = { λ old new js. Adds old new js };
 
-    ghost begins = { λ v level h old new. new ≡ old ++ holder_front h };
+    ghost begins = { λ v level h old new. new ≡ old ++ nest_front h };
 
     ghost reaches = { λ v list. ⊤ };
 
@@ -69,7 +61,7 @@ impl ListVisitor<Sheet> for ElementVisitor {
 
     fn error(
         &self,
-        writer: &mut Sheet,
+        writer: &mut Document,
         _level: u8,
         family: Family,
         at: usize,
@@ -80,7 +72,7 @@ impl ListVisitor<Sheet> for ElementVisitor {
 
     fn leaf(
         &self,
-        writer: &mut Sheet,
+        writer: &mut Document,
         context: &Context<'_>,
         _level: u8,
         family: Family,
@@ -92,18 +84,23 @@ impl ListVisitor<Sheet> for ElementVisitor {
         write_leaf(writer, state, known, buffer)
     }
 
-    fn begin(&self, writer: &mut Sheet, _level: u8, held: &HeldList<'_>) -> Result<(), AllocError> {
-        begin_holder(writer, held)
+    fn begin(
+        &self,
+        writer: &mut Document,
+        _level: u8,
+        held: &HeldList<'_>,
+    ) -> Result<(), AllocError> {
+        begin_nest(writer, held)
     }
 
     fn end(
         &self,
-        writer: &mut Sheet,
+        writer: &mut Document,
         _level: u8,
         held: &HeldList<'_>,
         whole: bool,
     ) -> Result<bool, AllocError> {
-        end_holder(writer, held.header)?;
+        end_nest(writer, held.header)?;
         Ok(whole)
     }
 
@@ -116,31 +113,31 @@ impl ListVisitor<Sheet> for ElementVisitor {
 
 /// Writes an error at an offset.
 fn write_fault(
-    sheet: &mut Sheet,
+    doc: &mut Document,
     family: Family,
     at: usize,
     fault: DecodeFault,
 ) -> Result<(), AllocError>
-    ensures { OnOk result (sheet.new ≡ sheet.old ++ json_tokens (fault_json at (fault_text (table_of family) fault))) }
+    ensures { OnOk result (doc.new ≡ doc.old ++ json_tokens (fault_json at (fault_text (table_of family) fault))) }
 {
-    sheet.begin_object()?;
-    sheet.key("error")?;
-    write_fault_at(sheet, family, at, fault)?;
-    sheet.end_object()
+    doc.begin_object()?;
+    doc.key("error")?;
+    write_fault_at(doc, family, at, fault)?;
+    doc.end_object()
 }
 
 /// Writes the offset and the text of an error.
 fn write_fault_at(
-    sheet: &mut Sheet,
+    doc: &mut Document,
     family: Family,
     at: usize,
     fault: DecodeFault,
 ) -> Result<(), AllocError>
-    ensures { OnOk result (sheet.new ≡ sheet.old ++ json_tokens (error_json (Some at) (fault_text (table_of family) fault))) }
+    ensures { OnOk result (doc.new ≡ doc.old ++ json_tokens (error_json (Some at) (fault_text (table_of family) fault))) }
 {
-    sheet.begin_object()?;
-    write_number_field(sheet, "at", at as u64)?;
-    sheet.key("text")?;
-    sheet.fault(family, fault)?;
-    sheet.end_object()
+    doc.begin_object()?;
+    write_number_field(doc, "at", at as u64)?;
+    doc.key("text")?;
+    doc.fault(family, fault)?;
+    doc.end_object()
 }

@@ -9,10 +9,10 @@ ghost use Rattle.link_messages.specs.Message.{NextOfAny};
 ghost use Rattle.link_json.specs.declared.messages.Failure.TheVariants.{Writer};
 ghost use Rattle.link_json.specs.Message.{ShowsMessages, ShowsEnd, ShowsMessage, WritesLines, AddsLines, OnMemory};
 
+use crate::document::Document;
 use crate::documents::{store_error, store_message};
 use crate::others::write_place;
 use crate::place::Place;
-use crate::sheet::Sheet;
 use link_messages::message_types::NLMSG_DONE;
 use link_messages::{Message, MessageError, any_message};
 use link_show::are_zeros_after;
@@ -37,7 +37,7 @@ pub enum Failure {
 /// A [`Failure`]. The lines that were written are whole, unless the writer fails.
 pub fn write_documents<P: Place, W: Write>(
     alloc: Global,
-    sheet: &mut Sheet,
+    doc: &mut Document,
     place: &P,
     buffer: &[u8],
     writer: &mut W,
@@ -53,16 +53,16 @@ pub fn write_documents<P: Place, W: Write>(
             Ok(Some(message)) => message,
             Ok(None) => {
                 if at == 0 {
-                    write_place(alloc, sheet, place, writer)?;
+                    write_place(alloc, doc, place, writer)?;
                 }
                 return Ok(whole);
             }
             Err(error) => {
-                let sound = write_rest(alloc, sheet, place, buffer, at, error, writer)?;
+                let sound = write_rest(alloc, doc, place, buffer, at, error, writer)?;
                 return Ok(whole & sound);
             }
         };
-        let well = write_line(alloc, sheet, place, &message, writer)?;
+        let well = write_line(alloc, doc, place, &message, writer)?;
         whole &= well;
         if message.kind == NLMSG_DONE {
             return Ok(whole);
@@ -75,7 +75,7 @@ pub fn write_documents<P: Place, W: Write>(
 /// a message. Returns false if it is an error.
 fn write_rest<P: Place, W: Write>(
     alloc: Global,
-    sheet: &mut Sheet,
+    doc: &mut Document,
     place: &P,
     buffer: &[u8],
     at: usize,
@@ -90,12 +90,12 @@ fn write_rest<P: Place, W: Write>(
     if are_zeros_after(at, &buffer[at..]) {
         return Ok(true);
     }
-    sheet.clear(alloc);
-    match store_error(sheet, place, error) {
+    doc.clear(alloc);
+    match store_error(doc, place, error) {
         Ok(()) => {}
         Err(_) => return Err(Failure::Memory),
     }
-    match print_document(alloc, sheet, writer) {
+    match print_document(alloc, doc, writer) {
         Ok(()) => Ok(false),
         Err(failure) => Err(failure),
     }
@@ -104,7 +104,7 @@ fn write_rest<P: Place, W: Write>(
 /// Writes the document of a message. Returns whether it has no error.
 fn write_line<P: Place, W: Write>(
     alloc: Global,
-    sheet: &mut Sheet,
+    doc: &mut Document,
     place: &P,
     message: &Message<'_>,
     writer: &mut W,
@@ -113,34 +113,34 @@ fn write_line<P: Place, W: Write>(
         (W.contents writer.old) (W.contents writer.new)) }
     ensures memory { OnMemory result (Keeps (W.contents writer.old) (W.contents writer.new)) }
 {
-    sheet.clear(alloc);
-    let well = match store_message(sheet, place, message) {
+    doc.clear(alloc);
+    let well = match store_message(doc, place, message) {
         Ok(well) => well,
         Err(_) => return Err(Failure::Memory),
     };
-    match print_document(alloc, sheet, writer) {
+    match print_document(alloc, doc, writer) {
         Ok(()) => Ok(well),
         Err(failure) => Err(failure),
     }
 }
 
-/// Writes the document of a sheet as a line, and clears the sheet. The line reads back as the document, if that does not
+/// Writes a document as a line, and clears it. The line reads back as the document, if that does not
 /// nest deeper than 128 arrays and objects. Never fails with `Memory`.
 ///
 /// # Errors
 ///
-/// `Writer` if the writer fails. Then the sheet is cleared too.
+/// `Writer` if the writer fails. Then the document is cleared too.
 pub fn print_document<W: Write>(
     alloc: Global,
-    sheet: &mut Sheet,
+    doc: &mut Document,
     writer: &mut W,
 ) -> Result<(), Failure>
-    ensures line { OnOk result (Appends (W.contents writer.old) (W.contents writer.new) (print sheet.old ++ 10 ∷ [])) }
-    ensures reads { (j : Json) → sheet.old ≡ json_tokens j → depth j ≤ 128 → document (print sheet.old) ≡ Some j }
-    ensures cleared { sheet.new ≡ [] }
+    ensures line { OnOk result (Appends (W.contents writer.old) (W.contents writer.new) (print doc.old ++ 10 ∷ [])) }
+    ensures reads { (j : Json) → doc.old ≡ json_tokens j → depth j ≤ 128 → document (print doc.old) ≡ Some j }
+    ensures cleared { doc.new ≡ [] }
     ensures failed { IfErr result (λ failure. failure ≡ Writer) }
 {
-    match sheet.write_line(alloc, writer) {
+    match doc.write_line(alloc, writer) {
         Ok(()) => Ok(()),
         Err(_) => Err(Failure::Writer),
     }

@@ -8,11 +8,11 @@ ghost use Rattle.link_json.specs.List.{WritesValue};
 ghost use Rattle.link_json.specs.Message.{OnMemory, document_line};
 ghost use Rattle.link_json.specs.Other.{ShowsListDocument, ShowsCheck, WritesLine, place_document, fault_document, check_document};
 
+use crate::document::Document;
 use crate::documents::{end_document, store_empty};
 use crate::lists::write_array;
 use crate::messages::{Failure, print_document};
 use crate::place::Place;
-use crate::sheet::Sheet;
 use link_messages::Payload;
 use netlink_packet_route::{Family, first_not_canonical};
 use std::alloc::{AllocError, Global};
@@ -25,7 +25,7 @@ use std::io::Write;
 /// A [`Failure`]. Nothing is written, unless the writer fails.
 pub fn write_place<P: Place, W: Write>(
     alloc: Global,
-    sheet: &mut Sheet,
+    doc: &mut Document,
     place: &P,
     writer: &mut W,
 ) -> Result<(), Failure>
@@ -33,9 +33,9 @@ pub fn write_place<P: Place, W: Write>(
         (document_line (place_document (P.fields place.now)))) }
     ensures memory { OnMemory result (Keeps (W.contents writer.old) (W.contents writer.new)) }
 {
-    sheet.clear(alloc);
-    match store_empty(sheet, place) {
-        Ok(()) => print_document(alloc, sheet, writer),
+    doc.clear(alloc);
+    match store_empty(doc, place) {
+        Ok(()) => print_document(alloc, doc, writer),
         Err(_) => Err(Failure::Memory),
     }
 }
@@ -47,7 +47,7 @@ pub fn write_place<P: Place, W: Write>(
 /// As [`write_place`].
 pub fn write_fault<P: Place, W: Write>(
     alloc: Global,
-    sheet: &mut Sheet,
+    doc: &mut Document,
     place: &P,
     at: Option<u64>,
     text: &[u8],
@@ -57,41 +57,41 @@ pub fn write_fault<P: Place, W: Write>(
         (document_line (fault_document (P.fields place.now) at text.now))) }
     ensures memory { OnMemory result (Keeps (W.contents writer.old) (W.contents writer.new)) }
 {
-    sheet.clear(alloc);
-    match store_fault(sheet, place, at, text) {
-        Ok(()) => print_document(alloc, sheet, writer),
+    doc.clear(alloc);
+    match store_fault(doc, place, at, text) {
+        Ok(()) => print_document(alloc, doc, writer),
         Err(_) => Err(Failure::Memory),
     }
 }
 
 /// Writes the document of an error.
 fn store_fault<P: Place>(
-    sheet: &mut Sheet,
+    doc: &mut Document,
     place: &P,
     at: Option<u64>,
     text: &[u8],
 ) -> Result<(), AllocError>
-    ensures { OnOk result (sheet.new ≡ sheet.old ++ json_tokens (fault_document (P.fields place.now) at text.now)) }
+    ensures { OnOk result (doc.new ≡ doc.old ++ json_tokens (fault_document (P.fields place.now) at text.now)) }
 {
-    sheet.begin_object()?;
-    place.write_fields(sheet)?;
-    sheet.key("error")?;
-    sheet.begin_object()?;
-    sheet.key("at")?;
-    write_offset(sheet, at)?;
-    sheet.key("text")?;
-    sheet.text(text)?;
-    sheet.end_object()?;
-    end_document(sheet, false)
+    doc.begin_object()?;
+    place.write_fields(doc)?;
+    doc.key("error")?;
+    doc.begin_object()?;
+    doc.key("at")?;
+    write_offset(doc, at)?;
+    doc.key("text")?;
+    doc.text(text)?;
+    doc.end_object()?;
+    end_document(doc, false)
 }
 
 /// Writes an offset, or null.
-fn write_offset(sheet: &mut Sheet, at: Option<u64>) -> Result<(), AllocError>
-    ensures { OnOk result (sheet.new ≡ sheet.old ++ json_tokens (at_json at)) }
+fn write_offset(doc: &mut Document, at: Option<u64>) -> Result<(), AllocError>
+    ensures { OnOk result (doc.new ≡ doc.old ++ json_tokens (at_json at)) }
 {
     match at {
-        Some(at) => sheet.number(at),
-        None => sheet.null(),
+        Some(at) => doc.number(at),
+        None => doc.null(),
     }
 }
 
@@ -102,7 +102,7 @@ fn write_offset(sheet: &mut Sheet, at: Option<u64>) -> Result<(), AllocError>
 /// As [`write_place`].
 pub fn write_list_document<P: Place, W: Write>(
     alloc: Global,
-    sheet: &mut Sheet,
+    doc: &mut Document,
     place: &P,
     family: Family,
     bytes: &[u8],
@@ -112,12 +112,12 @@ pub fn write_list_document<P: Place, W: Write>(
         (W.contents writer.old) (W.contents writer.new)) }
     ensures memory { OnMemory result (Keeps (W.contents writer.old) (W.contents writer.new)) }
 {
-    sheet.clear(alloc);
-    let well = match store_list(sheet, place, family, bytes) {
+    doc.clear(alloc);
+    let well = match store_list(doc, place, family, bytes) {
         Ok(well) => well,
         Err(_) => return Err(Failure::Memory),
     };
-    match print_document(alloc, sheet, writer) {
+    match print_document(alloc, doc, writer) {
         Ok(()) => Ok(well),
         Err(failure) => Err(failure),
     }
@@ -125,23 +125,23 @@ pub fn write_list_document<P: Place, W: Write>(
 
 /// Writes the document of a list. Returns whether it has no error.
 fn store_list<P: Place>(
-    sheet: &mut Sheet,
+    doc: &mut Document,
     place: &P,
     family: Family,
     bytes: &[u8],
 ) -> Result<bool, AllocError>
-    ensures { IfOk result (WritesValue (ShowsListDocument (P.fields place.now) family bytes.now) sheet.old sheet.new) }
+    ensures { IfOk result (WritesValue (ShowsListDocument (P.fields place.now) family bytes.now) doc.old doc.new) }
 {
-    sheet.begin_object()?;
-    place.write_fields(sheet)?;
-    sheet.key("list")?;
-    sheet.begin_object()?;
-    sheet.key("family")?;
-    sheet.string(family.name())?;
-    sheet.key("attrs")?;
-    let well = write_array(sheet, 0, family, Payload { at: 0, bytes })?;
-    sheet.end_object()?;
-    end_document(sheet, well)?;
+    doc.begin_object()?;
+    place.write_fields(doc)?;
+    doc.key("list")?;
+    doc.begin_object()?;
+    doc.key("family")?;
+    doc.string(family.name())?;
+    doc.key("attrs")?;
+    let well = write_array(doc, 0, family, Payload { at: 0, bytes })?;
+    doc.end_object()?;
+    end_document(doc, well)?;
     Ok(well)
 }
 
@@ -152,7 +152,7 @@ fn store_list<P: Place>(
 /// As [`write_place`].
 pub fn write_check<P: Place, W: Write>(
     alloc: Global,
-    sheet: &mut Sheet,
+    doc: &mut Document,
     place: &P,
     family: Family,
     bytes: &[u8],
@@ -163,12 +163,12 @@ pub fn write_check<P: Place, W: Write>(
     ensures memory { OnMemory result (Keeps (W.contents writer.old) (W.contents writer.new)) }
 {
     let first = first_not_canonical(family, bytes);
-    sheet.clear(alloc);
-    match store_check(sheet, place, family, first) {
+    doc.clear(alloc);
+    match store_check(doc, place, family, first) {
         Ok(()) => {}
         Err(_) => return Err(Failure::Memory),
     }
-    match print_document(alloc, sheet, writer) {
+    match print_document(alloc, doc, writer) {
         Ok(()) => Ok(first.is_none()),
         Err(failure) => Err(failure),
     }
@@ -176,26 +176,26 @@ pub fn write_check<P: Place, W: Write>(
 
 /// Writes the document that says whether a list is canonical, by the offset of its first attribute that is not.
 fn store_check<P: Place>(
-    sheet: &mut Sheet,
+    doc: &mut Document,
     place: &P,
     family: Family,
     first: Option<usize>,
 ) -> Result<(), AllocError>
-    ensures { OnOk result (sheet.new ≡ sheet.old ++ json_tokens (check_document (P.fields place.now) family first)) }
+    ensures { OnOk result (doc.new ≡ doc.old ++ json_tokens (check_document (P.fields place.now) family first)) }
 {
     let canonical = first.is_none();
-    sheet.begin_object()?;
-    place.write_fields(sheet)?;
-    sheet.key("check")?;
-    sheet.begin_object()?;
-    sheet.key("family")?;
-    sheet.string(family.name())?;
-    sheet.key("canonical")?;
-    sheet.boolean(canonical)?;
-    sheet.key("at")?;
-    write_offset(sheet, widened(first))?;
-    sheet.end_object()?;
-    end_document(sheet, canonical)
+    doc.begin_object()?;
+    place.write_fields(doc)?;
+    doc.key("check")?;
+    doc.begin_object()?;
+    doc.key("family")?;
+    doc.string(family.name())?;
+    doc.key("canonical")?;
+    doc.boolean(canonical)?;
+    doc.key("at")?;
+    write_offset(doc, widened(first))?;
+    doc.end_object()?;
+    end_document(doc, canonical)
 }
 
 /// Returns the same offset.

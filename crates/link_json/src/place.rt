@@ -3,7 +3,7 @@
 ghost use Rattle.std.specs.Prelude.{◌≡◌, ◌++◌, List, OnOk};
 ghost use Rattle.link_json.specs.Doc.{Field, fields_tokens};
 
-use crate::sheet::Sheet;
+use crate::document::Document;
 use std::alloc::AllocError;
 
 /// Where messages are from, such as a line of an input: the first members of their documents.
@@ -16,6 +16,6 @@ pub trait Place {
     /// # Errors
     ///
     /// `AllocError` if an allocation fails.
-    fn write_fields(&self, sheet: &mut Sheet) -> Result<(), AllocError>
-        ensures { OnOk result (sheet.new ≡ sheet.old ++ fields_tokens (fields self.now)) };
+    fn write_fields(&self, doc: &mut Document) -> Result<(), AllocError>
+        ensures { OnOk result (doc.new ≡ doc.old ++ fields_tokens (fields self.now)) };
 }

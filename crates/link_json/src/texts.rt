@@ -13,7 +13,7 @@ ghost use Rattle.link_show.specs.Structs.{bridge_id_text};
 ghost use Rattle.link_json.specs.Names.{short_name, without};
 ghost use Rattle.link_json.specs.Value.{text_json, hex_json, opaque_json, address_json};
 
-use crate::sheet::Sheet;
+use crate::document::Document;
 use json::Writer;
 use link_base::DecodeFault;
 use link_base::rows::form::Layout;
@@ -23,7 +23,7 @@ use netlink_packet_route::{Family, FamilySet};
 use std::alloc::{AllocError, Global};
 use std::str;
 
-impl Sheet {
+impl Document {
     /// Writes a text; an object with its bytes in hexadecimal, if it is not UTF-8.
     ///
     /// # Errors
@@ -52,7 +52,7 @@ impl Sheet {
     pub(crate) fn hex(&mut self, bytes: &[u8]) -> Result<(), AllocError>
         ensures { OnOk result (self.new ≡ self.old ++ json_tokens (hex_json bytes.now)) }
     {
-        spell(&mut self.text, bytes)?;
+        store_hex(&mut self.text, bytes)?;
         push(&mut self.writer, &self.text)
     }
 
@@ -133,7 +133,7 @@ impl Sheet {
 }
 
 /// Stores bytes in hexadecimal.
-fn spell(text: &mut Vec<u8>, bytes: &[u8]) -> Result<(), AllocError>
+fn store_hex(text: &mut Vec<u8>, bytes: &[u8]) -> Result<(), AllocError>
     ensures { OnOk result (text.new.items ≡ encode_lower bytes.now) }
 {
     text.clear();

@@ -11,9 +11,9 @@ ghost use Rattle.link_show.specs.Value.{counted_in};
 ghost use Rattle.link_json.specs.Doc.{fields_tokens};
 ghost use Rattle.link_json.specs.Value.{content_json, number_or_address, protocol_json, unit_of, unit_fields, raw_json, unnamed_json};
 
+use crate::document::Document;
 use crate::numbers::{write_flags, write_numbers};
 use crate::parts::{write_named, write_number_field};
-use crate::sheet::Sheet;
 use crate::structs::{write_limits, write_object, write_role, write_struct};
 use link_base::classes::flag_or_bool::flag_is_on;
 use link_base::rows::form::Look;
@@ -27,84 +27,84 @@ use std::net::Ipv6Addr;
 
 /// Writes the content of an attribute. `label` is that of the attribute type. Of a list, the bytes are written.
 pub(crate) fn write_content(
-    sheet: &mut Sheet,
+    doc: &mut Document,
     label: &KindLabel,
     content: Content<'_>,
 ) -> Result<(), AllocError>
-    ensures { OnOk result (sheet.new ≡ sheet.old ++ json_tokens (content_json (label_of label.now) content.entry)) }
+    ensures { OnOk result (doc.new ≡ doc.old ++ json_tokens (content_json (label_of label.now) content.entry)) }
 {
     match content {
-        Content::Nothing => sheet.boolean(true),
-        Content::Bool(is_on) => sheet.boolean(is_on),
-        Content::FlagOrBool(flag) => sheet.boolean(flag_is_on(flag)),
-        Content::Number { number, role, .. } => write_role(sheet, label.names, role, number),
-        Content::Signed(number) => sheet.signed(number),
-        Content::LowFlags(bits) => write_flags(sheet, label.names, bits.into()),
+        Content::Nothing => doc.boolean(true),
+        Content::Bool(is_on) => doc.boolean(is_on),
+        Content::FlagOrBool(flag) => doc.boolean(flag_is_on(flag)),
+        Content::Number { number, role, .. } => write_role(doc, label.names, role, number),
+        Content::Signed(number) => doc.signed(number),
+        Content::LowFlags(bits) => write_flags(doc, label.names, bits.into()),
         Content::MaskedFlags { flags, mask } => {
             let bytes = bytes_of_two(flags, mask);
-            write_object(sheet, MASKED_FIELDS, label.names, &bytes)
+            write_object(doc, MASKED_FIELDS, label.names, &bytes)
         }
-        Content::Pair(from, to) => write_object(sheet, PAIR_FIELDS, &[], &bytes_of_two(from, to)),
-        Content::Protocol(protocol) => write_protocol(sheet, protocol),
-        Content::Mac(address) => sheet.address(&address),
-        Content::Ipv4(address) => sheet.ip(&address.octets()),
-        Content::Ipv6(address) => write_ipv6(sheet, address),
+        Content::Pair(from, to) => write_object(doc, PAIR_FIELDS, &[], &bytes_of_two(from, to)),
+        Content::Protocol(protocol) => write_protocol(doc, protocol),
+        Content::Mac(address) => doc.address(&address),
+        Content::Ipv4(address) => doc.ip(&address.octets()),
+        Content::Ipv6(address) => write_ipv6(doc, address),
         Content::Bytes {
             look: Look::Address,
             bytes,
-        } => write_bytes(sheet, label.quantity, bytes),
+        } => write_bytes(doc, label.quantity, bytes),
         Content::Bytes {
             look: Look::Text,
             bytes,
-        } => sheet.text(without_nul(bytes)),
+        } => doc.text(without_nul(bytes)),
         Content::Bytes {
             look: Look::Held | Look::Peer,
             bytes,
-        } => sheet.opaque(bytes),
+        } => doc.opaque(bytes),
         Content::Struct { layout, bytes } => {
-            write_struct(sheet, layout, label.fields, label.names, bytes)
+            write_struct(doc, layout, label.fields, label.names, bytes)
         }
-        Content::Numbers { of, bytes } => write_numbers(sheet, label.names, of, bytes),
-        Content::Limits { name, numbers } => write_limits(sheet, name, numbers),
-        Content::Addresses { list, .. } | Content::List { list, .. } => sheet.opaque(list),
-        Content::Other(payload) => sheet.opaque(payload),
+        Content::Numbers { of, bytes } => write_numbers(doc, label.names, of, bytes),
+        Content::Limits { name, numbers } => write_limits(doc, name, numbers),
+        Content::Addresses { list, .. } | Content::List { list, .. } => doc.opaque(list),
+        Content::Other(payload) => doc.opaque(payload),
     }
 }
 
 /// Writes bytes: the number in them, if it counts something, or an address.
-fn write_bytes(sheet: &mut Sheet, quantity: Quantity, bytes: &[u8]) -> Result<(), AllocError>
-    ensures { OnOk result (sheet.new ≡ sheet.old
+fn write_bytes(doc: &mut Document, quantity: Quantity, bytes: &[u8]) -> Result<(), AllocError>
+    ensures { OnOk result (doc.new ≡ doc.old
         ++ json_tokens (number_or_address (counted_in quantity bytes.now) bytes.now)) }
 {
     match counted_in(quantity, bytes) {
-        Some(number) => sheet.number(number),
-        None => sheet.address(bytes),
+        Some(number) => doc.number(number),
+        None => doc.address(bytes),
     }
 }
 
-fn write_ipv6(sheet: &mut Sheet, address: Ipv6Addr) -> Result<(), AllocError>
-    ensures { OnOk result (sheet.new ≡ sheet.old ++ json_tokens (string (ip6_text (sixteen_octets address)))) }
+fn write_ipv6(doc: &mut Document, address: Ipv6Addr) -> Result<(), AllocError>
+    ensures { OnOk result (doc.new ≡ doc.old ++ json_tokens (string (ip6_text (sixteen_octets address)))) }
 {
     let mut octets = [0; 16];
     address.put(&mut octets);
-    sheet.ip(&octets)
+    doc.ip(&octets)
 }
 
-fn write_protocol(sheet: &mut Sheet, protocol: VlanProtocol) -> Result<(), AllocError>
-    ensures { OnOk result (sheet.new ≡ sheet.old ++ json_tokens (protocol_json protocol)) }
+fn write_protocol(doc: &mut Document, protocol: VlanProtocol) -> Result<(), AllocError>
+    ensures { OnOk result (doc.new ≡ doc.old ++ json_tokens (protocol_json protocol)) }
 {
     let number = u16::from(protocol);
-    write_named(sheet, number.into(), Some(protocol_name(protocol)))
+    write_named(doc, number.into(), Some(protocol_name(protocol)))
 }
 
 /// Writes the member with the unit of a number, if it has one.
-pub(crate) fn write_unit(sheet: &mut Sheet, quantity: Quantity) -> Result<(), AllocError>
-    ensures { OnOk result (sheet.new ≡ sheet.old ++ fields_tokens (unit_fields (unit_of quantity))) }
+pub(crate) fn write_unit(doc: &mut Document, quantity: Quantity) -> Result<(), AllocError>
+    ensures { OnOk result (doc.new ≡ doc.old ++ fields_tokens (unit_fields (unit_of quantity))) }
 {
     match unit_of(quantity) {
         Some(unit) => {
-            sheet.key("unit")?;
-            sheet.string(unit)
+            doc.key("unit")?;
+            doc.string(unit)
         }
         None => Ok(()),
     }
@@ -127,29 +127,29 @@ fn unit_of(quantity: Quantity) -> Option<&'static str>
 }
 
 /// Writes the value of an attribute that is not decoded.
-fn write_raw(sheet: &mut Sheet, buffer: NlaBuffer<'_>) -> Result<(), AllocError>
-    ensures { OnOk result (sheet.new ≡ sheet.old
+fn write_raw(doc: &mut Document, buffer: NlaBuffer<'_>) -> Result<(), AllocError>
+    ensures { OnOk result (doc.new ≡ doc.old
         ++ json_tokens (raw_json (kind_field_of buffer.entry) (payload_of buffer.entry))) }
 {
     let kind = buffer.kind();
-    sheet.begin_object()?;
-    write_number_field(sheet, "type", kind as u64)?;
-    sheet.key("flags")?;
-    write_flags(sheet, TYPE_FLAGS, (buffer.raw_kind() - kind) as u64)?;
-    sheet.key("hex")?;
-    sheet.hex(buffer.value())?;
-    sheet.end_object()
+    doc.begin_object()?;
+    write_number_field(doc, "type", kind as u64)?;
+    doc.key("flags")?;
+    write_flags(doc, TYPE_FLAGS, (buffer.raw_kind() - kind) as u64)?;
+    doc.key("hex")?;
+    doc.hex(buffer.value())?;
+    doc.end_object()
 }
 
 /// Writes an attribute whose type has no name.
-pub(crate) fn write_unnamed(sheet: &mut Sheet, buffer: NlaBuffer<'_>) -> Result<(), AllocError>
-    ensures { OnOk result (sheet.new ≡ sheet.old
+pub(crate) fn write_unnamed(doc: &mut Document, buffer: NlaBuffer<'_>) -> Result<(), AllocError>
+    ensures { OnOk result (doc.new ≡ doc.old
         ++ json_tokens (unnamed_json (kind_field_of buffer.entry) (payload_of buffer.entry))) }
 {
-    sheet.begin_object()?;
-    sheet.key("name")?;
-    sheet.digits(buffer.kind() as u64)?;
-    sheet.key("value")?;
-    write_raw(sheet, buffer)?;
-    sheet.end_object()
+    doc.begin_object()?;
+    doc.key("name")?;
+    doc.digits(buffer.kind() as u64)?;
+    doc.key("value")?;
+    write_raw(doc, buffer)?;
+    doc.end_object()
 }

@@ -15,7 +15,7 @@ use Rattle.netlink_packet_route.specs.declared.opening.Context.{Context}
 use Rattle.netlink_packet_route.specs.Family.{table_of}
 use Rattle.link_messages.specs.Finding.{Stretch}
 use Rattle.link_messages.specs.Held.{may_hold, answers_if, header_before, list_in, context_in}
-use Rattle.link_messages.specs.Shown.{Display, Shower, rows_in, holder_at, shows_unless, ShowsSingle, ShowsInner, ShowsInners, ShowsKnown, ShowsDecoded, ShowsItem, Decodes, Fails, end_of, ShowsItems, shows_none, Shows}
+use Rattle.link_messages.specs.Shown.{Display, Shower, rows_in, nest_at, shows_unless, ShowsSingle, ShowsInner, ShowsInners, ShowsKnown, ShowsDecoded, ShowsItem, Decodes, Fails, end_of, ShowsItems, shows_none, Shows}
 use Rattle.link_messages.specs.Walk.{Item}
 use Rattle.link_messages.proofs.Listing.{all_any, each_hold}
 
@@ -30,9 +30,9 @@ module _ {Y : Type 0} (d : Display Y) (P : Option ℕ → ℕ → List Y → Typ
     (leaf : (n : ℕ) (context : Context) (level : ℕ) (family : Family) (k : Option ℕ) (b : NlaBuffer) (content : Content) (out : List Y) → HasContent (rows_in family k) b content
     → d.leaf context level family k b content out → P k n out)
     (opened : (n level at : ℕ) (family : Family) (k : Option ℕ) (set : Family) (b : NlaBuffer) (content : Content) (inner : List Y) (whole : Bool) (out : List Y) (well : Bool) → may_hold k content ≡ true
-    → P None n inner → d.around level (holder_at family k (Some set) at b content) inner whole out well → P k (suc n) out)
+    → P None n inner → d.around level (nest_at family k (Some set) at b content) inner whole out well → P k (suc n) out)
     (nested : (n level at : ℕ) (family : Family) (k : ℕ) (b : NlaBuffer) (list : Bor (List ℕ)) (flagged : Bool) (inner : List Y) (whole : Bool) (out : List Y) (well : Bool)
-    → P (Some k) n inner → d.around level (holder_at family None None at b (contents.List list flagged)) inner whole out well → P None n out) where
+    → P (Some k) n inner → d.around level (nest_at family None None at b (contents.List list flagged)) inner whole out well → P None n out) where
   -- lists that are shown so are opened at a level less
   abbrev HoldBelow : ℕ → Shower Y → Type 0
   HoldBelow n shows = (context : Context) (level : ℕ) (family : Family) (list : Stretch) (out : List Y) (well : Bool) → shows context level family list out well → (m : ℕ) × (n ≡ suc m) × P None m out

@@ -23,7 +23,7 @@ use Rattle.netlink_packet_route.specs.Family.{table_of}
 use Rattle.netlink_packet_route.specs.Opening.{holding_at, IsOpened}
 use Rattle.link_messages.specs.Finding.{Stretch}
 use Rattle.link_messages.specs.Held.{Answers, is_headed, list_in, context_in}
-use Rattle.link_messages.specs.Shown.{Added, Display, Holder, Shower, rows_in, holder_at, shows_unless, is_well, ShowsHeld, ShowsSingle, ShowsInner, ShowsInners, ShowsDecoded, ShowsItem, Decodes, Fails, end_of, Shows, shows_in}
+use Rattle.link_messages.specs.Shown.{Added, Display, Nest, Shower, rows_in, nest_at, shows_unless, is_well, ShowsHeld, ShowsSingle, ShowsInner, ShowsInners, ShowsDecoded, ShowsItem, Decodes, Fails, end_of, Shows, shows_in}
 use Rattle.link_messages.specs.Walk.{Item, Walks, IsEnd, Walk}
 use Rattle.link_messages.specs.Within.{IsWithin, within_self}
 use Rattle.link_messages.proofs.Walking.{end_splits}
@@ -83,8 +83,8 @@ held_reached reaches part content payload list is h =
 
 module _ {Y : Type 0} (d : Display Y) where
   -- its list is opened
-  pub opened_shown : (n : ℕ) (context below : Context) (level at : ℕ) (family : Family) (k : Option ℕ) (b : NlaBuffer) (content : Content) (set : Family) (f : ℕ) (h : Holder) (inner : List Y) (whole : Bool) (out : List Y) (well : Bool)
-      → Answers n k (IsOpened (holding_at context family k f)) content (Some set) → 0 < n → f ≡ kind_field_of b → h ≡ holder_at family k (Some set) at b content → below ≡ context_in h.header context
+  pub opened_shown : (n : ℕ) (context below : Context) (level at : ℕ) (family : Family) (k : Option ℕ) (b : NlaBuffer) (content : Content) (set : Family) (f : ℕ) (h : Nest) (inner : List Y) (whole : Bool) (out : List Y) (well : Bool)
+      → Answers n k (IsOpened (holding_at context family k f)) content (Some set) → 0 < n → f ≡ kind_field_of b → h ≡ nest_at family k (Some set) at b content → below ≡ context_in h.header context
       → Shows d (n - 1) below (level + 1) set h.list inner whole → d.around level h inner whole out well → ShowsSingle d n (shows_in d n) context level at family k b content out well
   opened_shown zero context below level at family k b content set f h inner whole out well answer some same is deep shown around = absurd (omega (arith, some))
   opened_shown (suc n) context below level at family k b content set f h inner whole out well answer some same is deep shown around =
@@ -98,8 +98,8 @@ module _ {Y : Type 0} (d : Display Y) where
   -- ---- an attribute of a set
 
   -- a nested list
-  pub nested_shown : (n : ℕ) (shows : Shower Y) (context : Context) (level at : ℕ) (family : Family) (b : NlaBuffer) (list : Bor (List ℕ)) (flagged : Bool) (h : Holder) (in_family : Family) (k : ℕ) (bytes : List ℕ)
-      (inner : List Y) (whole : Bool) (out : List Y) (well : Bool) → HasContent (table_of family) b (contents.List list flagged) → h ≡ holder_at family None None at b (contents.List list flagged)
+  pub nested_shown : (n : ℕ) (shows : Shower Y) (context : Context) (level at : ℕ) (family : Family) (b : NlaBuffer) (list : Bor (List ℕ)) (flagged : Bool) (h : Nest) (in_family : Family) (k : ℕ) (bytes : List ℕ)
+      (inner : List Y) (whole : Bool) (out : List Y) (well : Bool) → HasContent (table_of family) b (contents.List list flagged) → h ≡ nest_at family None None at b (contents.List list flagged)
       → in_family ≡ family → k ≡ kind_of (kind_field_of b) → bytes ≡ list.now → ShowsInners d n shows context (level + 1) (at + 4) in_family k bytes inner whole → d.around level h inner whole out well
       → ShowsDecoded d n shows context level at family b out well
   nested_shown n shows context level at family b list flagged h in_family k bytes inner whole out well has is f e l shown around =
@@ -176,5 +176,5 @@ module _ {W Y : Type 0} (adds : W → W → List Y → Type 0) (d : Display Y) (
         subst (ItemsTo next old new) (and_false whole)
         (Going (shown_more (LeadTo list.1 next) (length list.1 - length rest, b) (d.error level family at fault) old mid new whole false (more old mid new) (lead_on list.1 rest next b split) h failed written))
     fault_more rest next old mid new whole at fault (Going h) some place (inr (c, bad, is, empty)) written =
-        let told = subst (λ i. adds mid new (d.error level family i (faults.Frame c))) place (subst (λ f. adds mid new (d.error level family at f)) is written) in
-        Broken empty (rw and_false at (items_end rest old mid new whole (Some (length list.1 - length rest, c)) h (some, refl, bad) told))
+        let reported = subst (λ i. adds mid new (d.error level family i (faults.Frame c))) place (subst (λ f. adds mid new (d.error level family at f)) is written) in
+        Broken empty (rw and_false at (items_end rest old mid new whole (Some (length list.1 - length rest, c)) h (some, refl, bad) reported))

@@ -71,8 +71,8 @@ pub record IsKnown (table : Table) (b : NlaBuffer) (known : Known) : Type 0 wher
   pub content : HasContent table b known.content
   pub label : label_in known.label ≡ label_for table b
 
--- an attribute that holds a list
-pub record Holder : Type 0 where
+-- an attribute that holds a list: a nest, as `nla_nest_start` has it
+pub record Nest : Type 0 where
   -- what is known of its type
   pub label : Option Label
   -- the set that it belongs to
@@ -83,12 +83,12 @@ pub record Holder : Type 0 where
   pub header : Option LinkHeader
   pub list : Stretch
 
-abbrev pub holder_of : HeldList → Holder
-holder_of held = record { label = label_in held.label.now; family = held.family; set = held.set; header = held.header; list = stretch_of held.list }
+abbrev pub nest_of : HeldList → Nest
+nest_of held = record { label = label_in held.label.now; family = held.family; set = held.set; header = held.header; list = stretch_of held.list }
 
 -- the attribute b of a set, or of its nested lists of type k, which starts at offset `at`, and whose list this set reads
-abbrev pub holder_at : Family → Option ℕ → Option Family → ℕ → NlaBuffer → Content → Holder
-holder_at family k set at b content = record {
+abbrev pub nest_at : Family → Option ℕ → Option Family → ℕ → NlaBuffer → Content → Nest
+nest_at family k set at b content = record {
   label = label_for (rows_in family k) b;
   family = family;
   set = set;
@@ -108,7 +108,7 @@ pub record Display (Y : Type 0) : Type 1 where
   -- an attribute that holds no list, of a set, or of its nested lists of a type
   pub leaf : Context → ℕ → Family → Option ℕ → NlaBuffer → Content → List Y → Type 0
   -- one that holds a list, from what is shown of the list, and whether that is well
-  pub around : ℕ → Holder → List Y → Bool → List Y → Bool → Type 0
+  pub around : ℕ → Nest → List Y → Bool → List Y → Bool → Type 0
 
 -- what is shown for a list of a set: the context, the level, the offset and the bytes; and whether it is well
 abbrev pub Shower : Type 0 → Type 1
@@ -121,14 +121,14 @@ shows_unless false shows out well = shows out well
 
 module _ {Y : Type 0} (d : Display Y) where
   -- an attribute that holds a list which is shown so
-  abbrev pub ShowsHeld : ℕ → Holder → (List Y → Bool → Type 0) → List Y → Bool → Type 0
+  abbrev pub ShowsHeld : ℕ → Nest → (List Y → Bool → Type 0) → List Y → Bool → Type 0
   ShowsHeld level h shows out well = (inner : List Y) × (whole : Bool) × shows inner whole × d.around level h inner whole out well
 
   -- the attribute b of a set, or of its nested lists of type k, by the set that reads its list
   abbrev pub ShowsAnswered : Shower Y → Context → ℕ → ℕ → Family → Option ℕ → NlaBuffer → Content → Option Family → List Y → Bool → Type 0
   ShowsAnswered shows context level at family k b content None out well = d.leaf context level family k b content out × (well ≡ true)
   ShowsAnswered shows context level at family k b content (Some set) out well =
-      ShowsHeld level (holder_at family k (Some set) at b content)
+      ShowsHeld level (nest_at family k (Some set) at b content)
       (shows (context_in (header_before content (payload_of b)) context) (level + 1) set (list_in content (at + 4, payload_of b))) out well
 
   -- one that is no nested list; n levels of lists may be opened
@@ -150,7 +150,7 @@ module _ {Y : Type 0} (d : Display Y) where
   -- the attribute b of a set, which decodes and starts at offset `at`
   abbrev pub ShowsKnown : ℕ → Shower Y → Context → ℕ → ℕ → Family → NlaBuffer → Content → List Y → Bool → Type 0
   ShowsKnown n shows context level at family b (contents.List list flagged) out well =
-      ShowsHeld level (holder_at family None None at b (contents.List list flagged))
+      ShowsHeld level (nest_at family None None at b (contents.List list flagged))
       (ShowsInners n shows context (level + 1) (at + 4) family (kind_of (kind_field_of b)) list.now) out well
   ShowsKnown n shows context level at family b content out well = ShowsSingle n shows context level at family None b content out well
 

@@ -2,7 +2,7 @@
 
 ghost use Rattle.std.specs.Prelude.{◌≡◌, ◌<◌, ◌++◌, ℕ, [], List, IfOk, OnOk};
 ghost use Rattle.link_messages.specs.Finding.{Stretch};
-ghost use Rattle.link_messages.specs.Shown.{Display, Holder, holder_of, IsKnown, rows_in, Added, Ends};
+ghost use Rattle.link_messages.specs.Shown.{Display, Nest, nest_of, IsKnown, rows_in, Added, Ends};
 ghost use Rattle.link_messages.specs.Within.{IsWithin};
 
 use crate::buffer_parts::Payload;
@@ -43,7 +43,7 @@ pub trait ListVisitor<W> {
     ghost adds: { W → W → List Piece → Type 0 };
 
     /// An attribute that holds a list was begun.
-    ghost begins: { Self → ℕ → Holder → W → W → Type 0 };
+    ghost begins: { Self → ℕ → Nest → W → W → Type 0 };
 
     /// Which lists can be visited.
     ghost reaches: { Self → Stretch → Type 0 };
@@ -84,8 +84,8 @@ pub trait ListVisitor<W> {
     /// Writes what precedes the attributes of a list that an attribute holds.
     fn begin(&self, writer: &mut W, level: u8, held: &HeldList<'_>) -> Result<(), Self::Error>
         requires level { level < 64 }
-        requires reached { reaches self.now (holder_of held.now).list }
-        ensures { OnOk result (begins self.now level (holder_of held.now) writer.old writer.new) };
+        requires reached { reaches self.now (nest_of held.now).list }
+        ensures { OnOk result (begins self.now level (nest_of held.now) writer.old writer.new) };
 
     /// Writes what follows them. `whole` is whether they are all well. Returns whether the attribute is.
     fn end(
@@ -96,8 +96,8 @@ pub trait ListVisitor<W> {
         whole: bool,
     ) -> Result<bool, Self::Error>
         requires { level < 63 }
-        ensures { IfOk result (Ends adds (begins self.now level (holder_of held.now))
-            (λ inner. (display self.now).around level (holder_of held.now) inner whole) writer.old writer.new) };
+        ensures { IfOk result (Ends adds (begins self.now level (nest_of held.now))
+            (λ inner. (display self.now).around level (nest_of held.now) inner whole) writer.old writer.new) };
 
     /// A theorem for the prover: no pieces, if nothing was written.
     ghost none: { (a : W) → adds a a [] };

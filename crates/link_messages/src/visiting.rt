@@ -7,7 +7,7 @@ ghost use Rattle.link_base.specs.Viewed.{set_in, buffer_in, kind_in, set_of, byt
 ghost use Rattle.netlink_packet_route.specs.Views.{family_in};
 ghost use Rattle.link_messages.specs.Finding.{stretch_of};
 ghost use Rattle.link_messages.specs.Held.{header_before, list_in, context_in};
-ghost use Rattle.link_messages.specs.Shown.{Added, IsKnown, holder_of, rows_in, Shows, ShowsDecoded, ShowsInners, ShowsSingle, shows_unless, shows_in};
+ghost use Rattle.link_messages.specs.Shown.{Added, IsKnown, nest_of, rows_in, Shows, ShowsDecoded, ShowsInners, ShowsSingle, shows_unless, shows_in};
 
 use crate::buffer_parts::Payload;
 use crate::header::{LinkHeader, peer_parts};
@@ -202,7 +202,7 @@ fn held_list<'a>(
     at: usize,
 ) -> HeldList<'a>
     requires { at + 4 + length (payload_of buffer) < 2 ^ 64 }
-    ensures { holder_of result ≡ record {
+    ensures { nest_of result ≡ record {
       label = label_in known.now.label;
       family = family;
       set = set;

@@ -1,4 +1,4 @@
--- The attributes that values spell.
+-- The attributes that values encode to.
 use Rattle.std.proofs.Common.{◌≡◌, ℕ, ◌+◌, ◌<◌, ◌≤◌, ◌%◌, ◌==◌, Bool, true, false, cond, List, [], ◌∷◌, ◌++◌, length, take, Option, Some, None, Ok, Err, refl, sym, ap, subst, ◌∙◌, arith}
 use Rattle.std.specs.Prelude.{nat_lt, nat_le}
 use Rattle.std.proofs.lemmas.Bool.{leb-true, eqb-true}
@@ -17,25 +17,25 @@ use Rattle.link_requests.specs.declared.head.Head.{Head}
 use Rattle.link_requests.specs.declared.level.Scope.{Scope}
 use Rattle.link_requests.specs.declared.level.Scope.TheVariants.{Attributes, Elements, Numbers}
 use Rattle.link_requests.specs.Opening.{Kinds, no_kinds}
-use Rattle.link_entries.specs.Spelled.{Spelling, before, fitted}
+use Rattle.link_entries.specs.Encoded.{Encoding, before, fitted}
 use Rattle.link_requests.specs.Value.{is_protinfo, is_placed, row_for, type_for, begins_at, payload_with, value_with, value_by, value_of}
 use Rattle.link_requests.specs.Values.{values_of, inner_of}
 use Rattle.link_requests.specs.Request.{up_to, attributes_of}
 use Rattle.link_requests.specs.Lists.{unrepeated}
 use Rattle.link_requests.specs.Law.{Attribute, attribute_by, attributes_in, Consists, has_attributes}
 
--- ---- spellings
+-- ---- encodings
 
-pub before_ok : (here others : Spelling) (s : List ℕ) → before here others ≡ Ok s → (a : List ℕ) × (b : List ℕ) × (here ≡ Ok a) × (others ≡ Ok b) × (s ≡ a ++ b)
+pub before_ok : (here others : Encoding) (s : List ℕ) → before here others ≡ Ok s → (a : List ℕ) × (b : List ℕ) × (here ≡ Ok a) × (others ≡ Ok b) × (s ≡ a ++ b)
 before_ok (Ok a) (Ok b) s e = (a, b, refl, refl, cc)
 before_ok (Ok a) (Err x) s e = absurd cc
 before_ok (Err x) others s e = absurd cc
 
-fitted_by : (f : ℕ) (p s : List ℕ) (b : Bool) → nat_le (length p) max_payload ≡ b → cond {A = Spelling} b (Ok (frame_bytes (whole f p))) (Err (0, TooLong)) ≡ Ok s → (length p ≤ max_payload) × (s ≡ frame_bytes (whole f p))
+fitted_by : (f : ℕ) (p s : List ℕ) (b : Bool) → nat_le (length p) max_payload ≡ b → cond {A = Encoding} b (Ok (frame_bytes (whole f p))) (Err (0, TooLong)) ≡ Ok s → (length p ≤ max_payload) × (s ≡ frame_bytes (whole f p))
 fitted_by f p s true short e = (leb-true (length p) max_payload short, cc)
 fitted_by f p s false long e = absurd cc
 
-pub fitted_ok : (f : ℕ) (t : Spelling) (s : List ℕ) → fitted f t ≡ Ok s → (p : List ℕ) × (t ≡ Ok p) × (length p ≤ max_payload) × (s ≡ frame_bytes (whole f p))
+pub fitted_ok : (f : ℕ) (t : Encoding) (s : List ℕ) → fitted f t ≡ Ok s → (p : List ℕ) × (t ≡ Ok p) × (length p ≤ max_payload) × (s ≡ frame_bytes (whole f p))
 fitted_ok f (Ok p) s e = let (short, is) = fitted_by f p s (nat_le (length p) max_payload) refl e in (p, refl, short, is)
 fitted_ok f (Err x) s e = absurd cc
 
@@ -53,7 +53,7 @@ type_low scope family i own e = omega arith
 consists_none : Consists [] []
 consists_none = ([], record { frames = record {}; string = refl }, record {})
 
-consists_more : (f : ℕ) (t : Spelling) (p b : List ℕ) (others : List Attribute) → f < 65536 → t ≡ Ok p → length p ≤ max_payload → Consists b others → Consists (frame_bytes (whole f p) ++ b) ((f, t) ∷ others)
+consists_more : (f : ℕ) (t : Encoding) (p b : List ℕ) (others : List Attribute) → f < 65536 → t ≡ Ok p → length p ≤ max_payload → Consists b others → Consists (frame_bytes (whole f p) ++ b) ((f, t) ∷ others)
 consists_more f t p b others low is short (xs, frames, all) =
     let complete : IsComplete (whole f p) = record { kind_field = low; payload = short; padding = length-replicate {A = ℕ} (gap p) 0 } in (
       whole f p ∷ xs,
@@ -69,8 +69,8 @@ module _ (octets : List ℕ) (scope : Scope) (depth : ℕ) (x : Kinds) (attribut
     with_scope sc h own a is =
         let f = type_for sc x.address_family i own e in
         let t = payload_with octets sc depth x i own e es (inner_of octets depth x es) in
-        let (p, spelled, short, same) = fitted_ok f t a is in
-        subst (λ u. Consists (u ++ b) ((f, t) ∷ others)) (sym same) (consists_more f t p b others (type_low sc x.address_family i own e) spelled short rest)
+        let (p, encoded, short, same) = fitted_ok f t a is in
+        subst (λ u. Consists (u ++ b) ((f, t) ∷ others)) (sym same) (consists_more f t p b others (type_low sc x.address_family i own e) encoded short rest)
 
     one_value : (own : Option Fields) (a : List ℕ) → value_by own octets scope depth x i e es (inner_of octets depth x es) ≡ Ok a → Consists (a ++ b) (attribute_by own octets scope depth x i e es ++ others)
     one_value None a is = absurd cc
@@ -99,26 +99,26 @@ module _ (octets : List ℕ) (scope : Scope) (depth : ℕ) (x : Kinds) (attribut
 -- ---- a message
 
 -- no list is repeated
-up_to_ok : (n m : ℕ) (t : Spelling) (s : List ℕ) → up_to n m t ≡ Ok s → (n ≡ m) × (t ≡ Ok s)
+up_to_ok : (n m : ℕ) (t : Encoding) (s : List ℕ) → up_to n m t ≡ Ok s → (n ≡ m) × (t ≡ Ok s)
 up_to_ok n m (Ok u) s h = let right = if_held (n == m) (n, Repeated) (Ok u) s h in (eqb-true n m right.0, right.1)
 up_to_ok n m (Err e) s h = absurd cc
 
--- what all values spell
+-- what all values encode to
 pub attributes_ok : (head : Head) (octets s : List ℕ) (es : List Entry) → attributes_of head octets es ≡ Ok s
     → (unrepeated [] es ≡ length es) × (values_of octets (Attributes Link) 0 (no_kinds head.address_family) 0 es ≡ Ok s)
 attributes_ok head octets s es h = by (begins_at 0 es) h
   where
-    spelled : List Entry → Spelling
-    spelled these = values_of octets (Attributes Link) 0 (no_kinds head.address_family) 0 these
+    encoded : List Entry → Encoding
+    encoded these = values_of octets (Attributes Link) 0 (no_kinds head.address_family) 0 these
 
     n : ℕ
     n = unrepeated [] es
 
-    by : (b : Bool) → cond {A = Spelling} b (up_to n (length es) (spelled (take n es))) (Err (0, BadDepth)) ≡ Ok s → (n ≡ length es) × (spelled es ≡ Ok s)
+    by : (b : Bool) → cond {A = Encoding} b (up_to n (length es) (encoded (take n es))) (Err (0, BadDepth)) ≡ Ok s → (n ≡ length es) × (encoded es ≡ Ok s)
     by true is =
-        let (all, same) = up_to_ok n (length es) (spelled (take n es)) s is in
+        let (all, same) = up_to_ok n (length es) (encoded (take n es)) s is in
         let whole : take n es ≡ es = ap (λ m. take m es) all ∙ take-length es in
-        (all, sym (ap spelled whole) ∙ same)
+        (all, sym (ap encoded whole) ∙ same)
     by false is = absurd cc
 
 pub message_consists : (head : Head) (octets s : List ℕ) (es : List Entry) → attributes_of head octets es ≡ Ok s → Consists s (attributes_in octets (Attributes Link) 0 (no_kinds head.address_family) 0 es)

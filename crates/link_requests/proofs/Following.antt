@@ -13,7 +13,7 @@ use Rattle.link_entries.proofs.WrittenLists.{if_held, no_bytes}
 use Rattle.link_requests.specs.declared.level.Scope.{Scope}
 use Rattle.link_requests.specs.declared.level.Scope.TheVariants.{Attributes}
 use Rattle.link_requests.specs.Opening.{Kinds}
-use Rattle.link_entries.specs.Spelled.{Spelling, alone, before, fitted}
+use Rattle.link_entries.specs.Encoded.{Encoding, alone, before, fitted}
 use Rattle.link_requests.specs.Value.{inline, type_for, set_for, is_held, kind_for, allowed, value_bytes, announced, held_payload, bytes_payload, value_payload, is_above, scope_below, below_of, attribute_with}
 
 -- ---- the set that reads a list in a value matters only if the value is a list of another set
@@ -48,8 +48,8 @@ module _ (scope : Scope) (r s : Option Family) (e : Entry) where
 
 -- ---- an attribute, from what was found of it
 
-module _ (octets : List ℕ) (scope : Scope) (depth : ℕ) (x : Kinds) (i : ℕ) (own : Fields) (e : Entry) (es : List Entry) (inner : Scope → Spelling) where
-  abbrev pub attribute_by : ℕ → Option Family → Bool → Spelling
+module _ (octets : List ℕ) (scope : Scope) (depth : ℕ) (x : Kinds) (i : ℕ) (own : Fields) (e : Entry) (es : List Entry) (inner : Scope → Encoding) where
+  abbrev pub attribute_by : ℕ → Option Family → Bool → Encoding
   attribute_by f reader follow = fitted f (before (alone (value_payload scope reader own follow e octets)) (below_of depth (scope_below scope reader own e) inner es))
 
   pub attribute_same : (f : ℕ) (reader : Option Family) (follow : Bool) → f ≡ type_for scope x.address_family i own e → (is_held own ≡ true → reader ≡ set_for scope x f) → follow ≡ is_above depth es → attribute_by f reader follow ≡ attribute_with octets scope depth x i own e es inner

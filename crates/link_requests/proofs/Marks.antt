@@ -14,7 +14,7 @@ use Rattle.link_entries.specs.declared.entry.Entry.{Entry}
 use Rattle.link_entries.specs.declared.misfit.Misfit.TheVariants.{BadDepth}
 use Rattle.link_entries.specs.Entry.{blank}
 use Rattle.link_entries.specs.Flat.{IsGroup, Flat}
-use Rattle.link_entries.specs.Spelled.{Spelling, before}
+use Rattle.link_entries.specs.Encoded.{Encoding, before}
 use Rattle.link_entries.proofs.EntryFields.{keeps_filled, elements_below, AreBelow}
 use Rattle.link_entries.proofs.WrittenLists.{if_held, both_true}
 use Rattle.link_requests.specs.declared.head.Head.{Head}
@@ -37,10 +37,10 @@ placed_own n names h = by (n == of_message) refl h
     by false other is = inr is
 
 module _ (octets : List ℕ) (x : Kinds) where
-  abbrev spelled : ℕ → List Entry → Spelling
-  spelled i es = values_of octets (Attributes Link) 0 x i es
+  abbrev encoded : ℕ → List Entry → Encoding
+  encoded i es = values_of octets (Attributes Link) 0 x i es
 
-  abbrev here : ℕ → Entry → List Entry → Spelling
+  abbrev here : ℕ → Entry → List Entry → Encoding
   here i e es = value_of octets (Attributes Link) 0 x i e es (inner_of octets 0 x es)
 
   one_own : (i : ℕ) (e : Entry) (es : List Entry) (a : List ℕ) → cond (e.depth == 0) (here i e es) (Ok []) ≡ Ok a → IsOwn x.address_family e
@@ -49,12 +49,12 @@ module _ (octets : List ℕ) (x : Kinds) where
       let is : here i e es ≡ Ok a = sym (ap (λ b. cond b (here i e es) (Ok [])) (eq-eqb e.depth 0 flat)) ∙ h in
       placed_own e.inner (names_form own) (if_held (is_placed (Attributes Link) own e) (0, BadDepth) (value_with octets (Attributes Link) 0 x i own e es (inner_of octets 0 x es)) a is).0
 
-  all_own : (i : ℕ) (es : List Entry) (s : List ℕ) → spelled i es ≡ Ok s → AllByRecursion (IsOwn x.address_family) es
+  all_own : (i : ℕ) (es : List Entry) (s : List ℕ) → encoded i es ≡ Ok s → AllByRecursion (IsOwn x.address_family) es
   all_own i [] s h = tt
   all_own i (e ∷ es) s h =
       let first = cond (e.depth == 0) (here i e es) (Ok []) in
-      let step : before first (spelled (i + 1) es) ≡ Ok s = sym (ap (λ b. cond b (Ok []) (before first (spelled (i + 1) es))) (le-ltb e.depth 0 (omega arith))) ∙ h in
-      let (a, b, one, others, join) = before_ok first (spelled (i + 1) es) s step in
+      let step : before first (encoded (i + 1) es) ≡ Ok s = sym (ap (λ b. cond b (Ok []) (before first (encoded (i + 1) es))) (le-ltb e.depth 0 (omega arith))) ∙ h in
+      let (a, b, one, others, join) = before_ok first (encoded (i + 1) es) s step in
       (one_own i e es a one, all_own (i + 1) es b others)
 
 -- ---- one of each list

@@ -65,21 +65,21 @@ module _ (head : Head) (octets s : List ℕ) (es : List Entry) (h : IsHead head)
       cond-false (nat_lt (length s) 16) _ _ one ∙ cond-false (nat_lt (number (take 4 s)) 16) _ _ two ∙ cond-false (nat_lt (length s) (number (take 4 s))) _ None three
 
   found : (result : Result (Option Message) MessageError) → head_error head ≡ None → attributes_of head octets es ≡ Ok a → NextMessage 0 s result → (m : Message) × (result ≡ Ok (Some m)) × IsMessageOf head octets es s m
-  found (Ok None) taken spelled (inl none) = absurd (omega (arith, long, ap length none))
-  found (Ok None) taken spelled (inr (q, b, done)) = absurd (no_request head taken ((begins_same q b).kind ∙ done))
-  found (Ok (Some m)) taken spelled is =
+  found (Ok None) taken encoded (inl none) = absurd (omega (arith, long, ap length none))
+  found (Ok None) taken encoded (inr (q, b, done)) = absurd (no_request head taken ((begins_same q b).kind ∙ done))
+  found (Ok (Some m)) taken encoded is =
       let same = begins_same (packet_of m) is.0.begins in
       let size : length m.payload.now ≡ length (link_head head ++ a) = ap length (sym same.payload) in
       let end : m.next ≡ length s = omega (arith, is.0.next, size, message_length head a, long) in
-      (m, refl, record { attributes = a; spelled = spelled; packet = packet_same m same; at = is.0.offset; next = end })
-  found (Err e) taken spelled bad = let wrong : None ≡ Some e = sym no_fault ∙ bad.1 in absurd cc
+      (m, refl, record { attributes = a; encoded = encoded; packet = packet_same m same; at = is.0.offset; next = end })
+  found (Err e) taken encoded bad = let wrong : None ≡ Some e = sym no_fault ∙ bad.1 in absurd cc
 
 pub message_found : (head : Head) (octets s : List ℕ) (es : List Entry) (result : Result (Option Message) MessageError) → IsHead head → request_of head octets es ≡ Ok s → NextMessage 0 s result
     → (m : Message) × (result ≡ Ok (Some m)) × IsMessageOf head octets es s m
 message_found head octets s es result h is next =
     let w = is_written head octets es (length s) (sym (ap sized is)) in
     let text : s ≡ packet_bytes (packet_with head w.attributes) = let both : Ok s ≡ Ok (packet_bytes (packet_with head w.attributes)) = sym is ∙ w.is in cc in
-    found head octets s es h w.attributes text w.short result w.head_taken w.spelled next
+    found head octets s es h w.attributes text w.short result w.head_taken w.encoded next
 
 -- ---- its header
 

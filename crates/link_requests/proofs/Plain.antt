@@ -1,4 +1,4 @@
--- Values that refer to their bytes spell what `link_entries` writes for them.
+-- Values that refer to their bytes encode to what `link_entries` writes for them.
 use Rattle.std.proofs.Common.{◌≡◌, ◌≢◌, ◌⊎◌, ℕ, ◌+◌, ◌-◌, ◌%◌, ◌==◌, ◌&&◌, ◌||◌, Bool, true, false, cond, List, [], ◌∷◌, ◌++◌, length, Option, Some, None, Result, Ok, Err, inl, inr, refl, sym, ap, ap₂, subst, ◌∙◌, arith, option_map}
 use Rattle.std.specs.Prelude.{nat_lt, nat_le, take}
 use Rattle.std.specs.List.{AllByRecursion}
@@ -20,13 +20,13 @@ use Rattle.link_entries.specs.declared.misfit.Misfit.TheVariants.{TooLong, BadFo
 use Rattle.link_entries.specs.Fields.{array_number, ip_address, fields_at}
 use Rattle.link_entries.specs.Forms.{form_held}
 use Rattle.link_entries.specs.Payload.{has_form, only_if, has_size, passed, payload_of, field_of}
-use Rattle.link_entries.specs.Spelled as spelled
-use Rattle.link_entries.proofs.Spellings.{frame_low}
+use Rattle.link_entries.specs.Encoded as encoded
+use Rattle.link_entries.proofs.Encodings.{frame_low}
 use Rattle.link_entries.proofs.WrittenLists.{if_held, alone_ok}
 use Rattle.link_requests.specs.declared.level.Scope.{Scope}
 use Rattle.link_requests.specs.declared.level.Scope.TheVariants.{Attributes, Elements, Numbers, Addresses}
 use Rattle.link_requests.specs.Opening.{Kinds}
-use Rattle.link_entries.specs.Spelled.{Spelling, alone, before}
+use Rattle.link_entries.specs.Encoded.{Encoding, alone, before}
 use Rattle.link_requests.specs.Value.{inline, is_protinfo, is_placed, type_for, set_for, kind_for, is_allowed, allowed, value_bytes, announced, held_payload, bytes_payload, value_payload, is_above, begins_at, scope_below, inside_of, below_of, payload_with, attribute_with, value_by, value_of}
 use Rattle.link_requests.specs.Values.{kinds_in, values_of, inner_of}
 use Rattle.link_requests.specs.Law.{lowered, list_at, IsPlain}
@@ -35,16 +35,16 @@ use Rattle.link_requests.proofs.Following.{scope_passed}
 
 -- ---- results
 
-abbrev payload_told : List ℕ → Result (List ℕ) Misfit
-payload_told q = Ok q
+abbrev payload_is : List ℕ → Result (List ℕ) Misfit
+payload_is q = Ok q
 
-abbrev spelling_told : List ℕ → Spelling
-spelling_told t = Ok t
+abbrev encoding_ok : List ℕ → Encoding
+encoding_ok t = Ok t
 
-told_same : (p t : List ℕ) → spelling_told p ≡ spelling_told t → p ≡ t
-told_same p t e = cc
+ok_same : (p t : List ℕ) → encoding_ok p ≡ encoding_ok t → p ≡ t
+ok_same p t e = cc
 
-payload_same : (p q : List ℕ) → payload_told p ≡ payload_told q → p ≡ q
+payload_same : (p q : List ℕ) → payload_is p ≡ payload_is q → p ≡ q
 payload_same p q e = cc
 
 -- ---- payloads
@@ -93,7 +93,7 @@ sub_none scope reader form e other = scope_passed scope reader form e ∙ ap (λ
 
 held_alone : (reader : Option Family) (follow : Bool) (e : Entry) (octets q : List ℕ) → (e.offset == inline) ≡ false → held_payload reader follow e octets ≡ Ok q → follow ≡ false
 held_alone reader true e octets q lent h =
-    let bad : Err BadDepth ≡ payload_told q = sym (ap (λ b. cond b (announced reader) (Err BadDepth)) lent) ∙ h in absurd cc
+    let bad : Err BadDepth ≡ payload_is q = sym (ap (λ b. cond b (announced reader) (Err BadDepth)) lent) ∙ h in absurd cc
 held_alone reader false e octets q lent h = refl
 
 -- values follow only a list
@@ -106,26 +106,26 @@ module _ (scope : Scope) (reader : Option Family) (follow : Bool) (e : Entry) (o
     | inr other ↦ inr (sub_none scope reader form e other)
   ]
 
-follow_none : (depth : ℕ) (sub : Option Scope) (inner : Scope → Spelling) (es : List Entry) (follow : Bool) (t : List ℕ) → (follow ≡ false) ⊎ (sub ≡ None) → cond follow (inside_of (depth + 1) sub inner es) (Ok []) ≡ Ok t → (follow ≡ false) × (t ≡ [])
+follow_none : (depth : ℕ) (sub : Option Scope) (inner : Scope → Encoding) (es : List Entry) (follow : Bool) (t : List ℕ) → (follow ≡ false) ⊎ (sub ≡ None) → cond follow (inside_of (depth + 1) sub inner es) (Ok []) ≡ Ok t → (follow ≡ false) × (t ≡ [])
 follow_none depth sub inner es true t (inl bad) h = absurd cc
-follow_none depth sub inner es true t (inr none) h = let bad : Err (0, BadDepth) ≡ spelling_told t = sym (ap (λ s. inside_of (depth + 1) s inner es) none) ∙ h in absurd cc
-follow_none depth sub inner es false t either h = (refl, let same : spelling_told [] ≡ spelling_told t = h in sym (told_same [] t same))
+follow_none depth sub inner es true t (inr none) h = let bad : Err (0, BadDepth) ≡ encoding_ok t = sym (ap (λ s. inside_of (depth + 1) s inner es) none) ∙ h in absurd cc
+follow_none depth sub inner es false t either h = (refl, let same : encoding_ok [] ≡ encoding_ok t = h in sym (ok_same [] t same))
 
 -- ---- one element
 
--- what an element of a list spells, in the words of `link_entries`
+-- what an element of a list encodes to, in the words of `link_entries`
 module _ (octets : List ℕ) (set : Family) (k depth : ℕ) (x : Kinds) (i : ℕ) (e : Entry) (es : List Entry) (lent : (e.offset == inline) ≡ false) where
   abbrev below : Entry
   below = lowered depth e
 
   abbrev IsElement : Scope → Fields → Type 0
   IsElement scope list = (a : List ℕ) → value_of octets scope (depth + 1) x i e es (inner_of octets (depth + 1) x es) ≡ Ok a → e.depth ≡ depth + 1
-      → (is_above (depth + 1) es ≡ false) × (spelled.element_of (elements_at (table_of set) k) list k i below octets ≡ Ok a)
+      → (is_above (depth + 1) es ≡ false) × (encoded.element_of (elements_at (table_of set) k) list k i below octets ≡ Ok a)
 
-  right_place : e.depth ≡ depth + 1 → e.kind == k ≡ true → (list : Fields) → spelled.element_of (elements_at (table_of set) k) list k i below octets ≡ spelled.element_content (elements_at (table_of set) k) list i below octets
+  right_place : e.depth ≡ depth + 1 → e.kind == k ≡ true → (list : Fields) → encoded.element_of (elements_at (table_of set) k) list k i below octets ≡ encoded.element_content (elements_at (table_of set) k) list i below octets
   right_place deep same list =
       let one : below.depth ≡ 1 = omega (arith, deep) in
-      ap₂ (λ a b. cond (a && b) (spelled.element_content (elements_at (table_of set) k) list i below octets) (Err BadElement)) (eq-eqb below.depth 1 one) same
+      ap₂ (λ a b. cond (a && b) (encoded.element_content (elements_at (table_of set) k) list i below octets) (Err BadElement)) (eq-eqb below.depth 1 one) same
 
   -- an attribute with these fields, below which is nothing
   pub single : (scope : Scope) (own : Fields) (a : List ℕ) → ((reader : Option Family) (follow : Bool) (q : List ℕ) → value_payload scope reader own follow e octets ≡ Ok q → (follow ≡ false) ⊎ (scope_below scope reader own e ≡ None))
@@ -154,12 +154,12 @@ module _ (octets : List ℕ) (set : Family) (k depth : ℕ) (x : Kinds) (i : ℕ
       ends own reader follow q is = inr refl
 
       by : (b : Bool) → e.kind == k ≡ b → value_by (cond b (Some own) None) octets (Elements set k) (depth + 1) x i e es (inner_of octets (depth + 1) x es) ≡ Ok a
-          → (is_above (depth + 1) es ≡ false) × (spelled.element_of (elements_at (table_of set) k) (fields.List flag) k i below octets ≡ Ok a)
+          → (is_above (depth + 1) es ≡ false) × (encoded.element_of (elements_at (table_of set) k) (fields.List flag) k i below octets ≡ Ok a)
       by false same is = absurd cc
       by true same is =
           let (none, (q, payload, frame)) = single (Elements set k) own a (ends own) is in
           let inside : payload_of own (record below { kind = e.inner }) octets ≡ Ok q = payload_depth own (record e { kind = e.inner }) (e.depth - depth) octets ∙ payload in
-          let text = ap (λ f. spelled.framed f (payload_of own (record below { kind = e.inner }) octets)) (field_depth own e.inner e (e.depth - depth)) ∙ ap (spelled.framed (field_of own e.inner e)) inside in
+          let text = ap (λ f. encoded.framed f (payload_of own (record below { kind = e.inner }) octets)) (field_depth own e.inner e (e.depth - depth)) ∙ ap (encoded.framed (field_of own e.inner e)) inside in
           (none, right_place deep same (fields.List flag) ∙ text ∙ ap Ok (sym (frame_low (field_of own e.inner e) q)) ∙ ap Ok (sym frame))
 
   -- an address
@@ -167,12 +167,12 @@ module _ (octets : List ℕ) (set : Family) (k depth : ℕ) (x : Kinds) (i : ℕ
   of_address size a h deep = by (e.kind == k) refl h
     where
       by : (b : Bool) → e.kind == k ≡ b → value_by (cond b (Some (ip_address size)) None) octets (Addresses size k) (depth + 1) x i e es (inner_of octets (depth + 1) x es) ≡ Ok a
-          → (is_above (depth + 1) es ≡ false) × (spelled.element_of (elements_at (table_of set) k) (fields.Addresses size) k i below octets ≡ Ok a)
+          → (is_above (depth + 1) es ≡ false) × (encoded.element_of (elements_at (table_of set) k) (fields.Addresses size) k i below octets ≡ Ok a)
       by false same is = absurd cc
       by true same is =
           let (none, (q, payload, frame)) = single (Addresses size k) (ip_address size) a (λ reader follow q value. inr refl) is in
           let inside : payload_of (ip_address size) below octets ≡ Ok q = payload in
-          (none, right_place deep same (fields.Addresses size) ∙ ap (spelled.framed i) inside ∙ ap Ok (sym (frame_low i q)) ∙ ap Ok (sym frame))
+          (none, right_place deep same (fields.Addresses size) ∙ ap (encoded.framed i) inside ∙ ap Ok (sym (frame_low i q)) ∙ ap Ok (sym frame))
 
   -- a number
   of_number : (a : ArrayOf) → IsElement (Numbers a k) (fields.Numbers a)
@@ -182,12 +182,12 @@ module _ (octets : List ℕ) (set : Family) (k depth : ℕ) (x : Kinds) (i : ℕ
       bytes I32 = refl
       bytes n = refl
 
-      ended : (follow : Bool) (t : List ℕ) → cond follow (Err (0, BadDepth)) (Ok []) ≡ spelling_told t → (follow ≡ false) × (t ≡ [])
+      ended : (follow : Bool) (t : List ℕ) → cond follow (Err (0, BadDepth)) (Ok []) ≡ encoding_ok t → (follow ≡ false) × (t ≡ [])
       ended true t is = absurd cc
-      ended false t is = (refl, sym (told_same [] t is))
+      ended false t is = (refl, sym (ok_same [] t is))
 
       by : (b : Bool) → e.kind == k ≡ b → value_by (cond b (Some (array_number n)) None) octets (Numbers n k) (depth + 1) x i e es (inner_of octets (depth + 1) x es) ≡ Ok a
-          → (is_above (depth + 1) es ≡ false) × (spelled.element_of (elements_at (table_of set) k) (fields.Numbers n) k i below octets ≡ Ok a)
+          → (is_above (depth + 1) es ≡ false) × (encoded.element_of (elements_at (table_of set) k) (fields.Numbers n) k i below octets ≡ Ok a)
       by false same is = absurd cc
       by true same is =
           let (q, t, mine, others, join) = before_ok (alone (payload_of (array_number n) e [])) (cond (is_above (depth + 1) es) (Err (0, BadDepth)) (Ok [])) a is in
@@ -202,28 +202,28 @@ first_deep : (depth : ℕ) (e : Entry) → nat_lt e.depth (depth + 1) ≡ false 
 first_deep depth e low high = omega (arith, ltb-false e.depth (depth + 1) low, ltb-false (depth + 1) e.depth high)
 
 -- up to a value that is less deep, there are no elements
-elements_end : (table : Table) (list : Fields) (k depth : ℕ) (octets : List ℕ) (i : ℕ) (e : Entry) (es : List Entry) → nat_lt e.depth (depth + 1) ≡ true → spelled.elements_of table list k octets i (list_at depth (e ∷ es)) ≡ Ok []
+elements_end : (table : Table) (list : Fields) (k depth : ℕ) (octets : List ℕ) (i : ℕ) (e : Entry) (es : List Entry) → nat_lt e.depth (depth + 1) ≡ true → encoded.elements_of table list k octets i (list_at depth (e ∷ es)) ≡ Ok []
 elements_end table list k depth octets i e es low = by (nat_lt e.depth depth) refl
   where
-    by : (b : Bool) → nat_lt e.depth depth ≡ b → spelled.elements_of table list k octets i (cond b [] (lowered depth e ∷ list_at depth es)) ≡ Ok []
+    by : (b : Bool) → nat_lt e.depth depth ≡ b → encoded.elements_of table list k octets i (cond b [] (lowered depth e ∷ list_at depth es)) ≡ Ok []
     by true lower = refl
     by false same =
         let flat : e.depth - depth ≡ 0 = omega (arith, ltb-true e.depth (depth + 1) low, ltb-false e.depth depth same) in
-        ap (λ c. cond c (Ok []) (spelled.before (spelled.alone (spelled.element_of table list k i (lowered depth e) octets)) (spelled.elements_of table list k octets (i + 1) (list_at depth es)))) (eq-eqb (e.depth - depth) 0 flat)
+        ap (λ c. cond c (Ok []) (encoded.before (encoded.alone (encoded.element_of table list k i (lowered depth e) octets)) (encoded.elements_of table list k octets (i + 1) (list_at depth es)))) (eq-eqb (e.depth - depth) 0 flat)
 
 module _ (octets : List ℕ) (set : Family) (k depth : ℕ) (x : Kinds) (family : ℕ) (scope : Scope) (list : Fields)
     (one : (i : ℕ) (e : Entry) (es : List Entry) (a : List ℕ) → (e.offset == inline) ≡ false → value_of octets scope (depth + 1) x i e es (inner_of octets (depth + 1) x es) ≡ Ok a → e.depth ≡ depth + 1
-    → (is_above (depth + 1) es ≡ false) × (spelled.element_of (elements_at (table_of set) k) list k i (lowered depth e) octets ≡ Ok a)) where
+    → (is_above (depth + 1) es ≡ false) × (encoded.element_of (elements_at (table_of set) k) list k i (lowered depth e) octets ≡ Ok a)) where
   abbrev table : Table
   table = elements_at (table_of set) k
 
   elements_same : (i : ℕ) (es : List Entry) (t : List ℕ) → is_above (depth + 1) es ≡ false → AllByRecursion (IsPlain set family) (list_at depth es) → values_of octets scope (depth + 1) x i es ≡ Ok t
-      → spelled.elements_of table list k octets i (list_at depth es) ≡ Ok t
-  elements_same i [] t near plain h = ap Ok (told_same [] t h)
+      → encoded.elements_of table list k octets i (list_at depth es) ≡ Ok t
+  elements_same i [] t near plain h = ap Ok (ok_same [] t h)
   elements_same i (e ∷ es) t near plain h = elim (cases_Bool (nat_lt e.depth (depth + 1))) [
     | inl low ↦
-        let ends : spelling_told [] ≡ spelling_told t = sym (ap (λ b. cond b (Ok []) (before (cond (e.depth == depth + 1) (value_of octets scope (depth + 1) x i e es (inner_of octets (depth + 1) x es)) (Ok [])) (values_of octets scope (depth + 1) x (i + 1) es))) low) ∙ h in
-        elements_end table list k depth octets i e es low ∙ ap Ok (told_same [] t ends)
+        let ends : encoding_ok [] ≡ encoding_ok t = sym (ap (λ b. cond b (Ok []) (before (cond (e.depth == depth + 1) (value_of octets scope (depth + 1) x i e es (inner_of octets (depth + 1) x es)) (Ok [])) (values_of octets scope (depth + 1) x (i + 1) es))) low) ∙ h in
+        elements_end table list k depth octets i e es low ∙ ap Ok (ok_same [] t ends)
     | inr deep ↦
         let place = first_deep depth e deep near in
         let here = value_of octets scope (depth + 1) x i e es (inner_of octets (depth + 1) x es) in
@@ -234,9 +234,9 @@ module _ (octets : List ℕ) (set : Family) (k depth : ℕ) (x : Kinds) (family 
         let (none, mine) = one i e es a both.0.lent first place in
         let rest = elements_same (i + 1) es b none both.1 others in
         let inner : e.depth - depth ≢ 0 = λ z. absurd (omega (arith, z, place)) in
-        ap (spelled.elements_of table list k octets i) listed
-        ∙ ap (λ c. cond c (Ok []) (spelled.before (spelled.alone (spelled.element_of table list k i (lowered depth e) octets)) (spelled.elements_of table list k octets (i + 1) (list_at depth es)))) (ne_eqb (e.depth - depth) 0 inner)
-        ∙ ap₂ (λ r s. spelled.before (spelled.alone r) s) mine rest ∙ ap Ok (sym join)
+        ap (encoded.elements_of table list k octets i) listed
+        ∙ ap (λ c. cond c (Ok []) (encoded.before (encoded.alone (encoded.element_of table list k i (lowered depth e) octets)) (encoded.elements_of table list k octets (i + 1) (list_at depth es)))) (ne_eqb (e.depth - depth) 0 inner)
+        ∙ ap₂ (λ r s. encoded.before (encoded.alone r) s) mine rest ∙ ap Ok (sym join)
   ]
 
 -- ---- an attribute
@@ -246,7 +246,7 @@ near_of depth [] h = refl
 near_of depth (e ∷ es) h = le-ltb depth e.depth (omega (arith, eqb-true e.depth depth h))
 
 -- no elements follow
-none_below : (table : Table) (list : Fields) (k depth : ℕ) (octets : List ℕ) (es : List Entry) → is_above depth es ≡ false → spelled.elements_of table list k octets 0 (list_at depth es) ≡ Ok []
+none_below : (table : Table) (list : Fields) (k depth : ℕ) (octets : List ℕ) (es : List Entry) → is_above depth es ≡ false → encoded.elements_of table list k octets 0 (list_at depth es) ≡ Ok []
 none_below table list k depth octets [] h = refl
 none_below table list k depth octets (e ∷ es) h = elements_end table list k depth octets 0 e es (lt-ltb e.depth (depth + 1) (omega (arith, ltb-false depth e.depth h)))
 
@@ -254,14 +254,14 @@ module _ (octets : List ℕ) (set : Family) (depth : ℕ) (x : Kinds) (e : Entry
   abbrev attributes : Table
   attributes = table_of set
 
-  abbrev inner : Scope → Spelling
+  abbrev inner : Scope → Encoding
   inner = inner_of octets depth x es
 
   -- the values that follow are its elements
   in_scope : (sub : Scope) (list : Fields) (t : List ℕ)
       → ((y : Kinds) (i : ℕ) (f : Entry) (fs : List Entry) (a : List ℕ) → (f.offset == inline) ≡ false → value_of octets sub (depth + 1) y i f fs (inner_of octets (depth + 1) y fs) ≡ Ok a → f.depth ≡ depth + 1
-      → (is_above (depth + 1) fs ≡ false) × (spelled.element_of (elements_at attributes e.kind) list e.kind i (lowered depth f) octets ≡ Ok a))
-      → inside_of (depth + 1) (Some sub) inner es ≡ Ok t → spelled.elements_of (elements_at attributes e.kind) list e.kind octets 0 (list_at depth es) ≡ Ok t
+      → (is_above (depth + 1) fs ≡ false) × (encoded.element_of (elements_at attributes e.kind) list e.kind i (lowered depth f) octets ≡ Ok a))
+      → inside_of (depth + 1) (Some sub) inner es ≡ Ok t → encoded.elements_of (elements_at attributes e.kind) list e.kind octets 0 (list_at depth es) ≡ Ok t
   in_scope sub list t one h =
       let y = kinds_in octets sub (depth + 1) x es in
       let (begins, is) = begins_or (begins_at (depth + 1) es) refl h in
@@ -271,11 +271,11 @@ module _ (octets : List ℕ) (set : Family) (depth : ℕ) (x : Kinds) (e : Entry
       begins_or true begins is = (begins, is)
       begins_or false begins is = absurd cc
 
-  nowhere : (list : Fields) (sub : Option Scope) (t : List ℕ) → sub ≡ None → inside_of (depth + 1) sub inner es ≡ Ok t → spelled.elements_of (elements_at attributes e.kind) list e.kind octets 0 (list_at depth es) ≡ Ok t
-  nowhere list sub t none h = let bad : Err (0, BadDepth) ≡ spelling_told t = sym (ap (λ s. inside_of (depth + 1) s inner es) none) ∙ h in absurd cc
+  nowhere : (list : Fields) (sub : Option Scope) (t : List ℕ) → sub ≡ None → inside_of (depth + 1) sub inner es ≡ Ok t → encoded.elements_of (elements_at attributes e.kind) list e.kind octets 0 (list_at depth es) ≡ Ok t
+  nowhere list sub t none h = let bad : Err (0, BadDepth) ≡ encoding_ok t = sym (ap (λ s. inside_of (depth + 1) s inner es) none) ∙ h in absurd cc
 
   inside_same : (reader : Option Family) (own : Fields) (q t : List ℕ) → value_payload (Attributes set) reader own true e octets ≡ Ok q → inside_of (depth + 1) (scope_below (Attributes set) reader own e) inner es ≡ Ok t
-      → spelled.elements_of (elements_at attributes e.kind) own e.kind octets 0 (list_at depth es) ≡ Ok t
+      → encoded.elements_of (elements_at attributes e.kind) own e.kind octets 0 (list_at depth es) ≡ Ok t
   inside_same reader (fields.List flag) q t value h = in_scope (Elements set e.kind) (fields.List flag) t (λ y i f fs a low is deep. of_nested octets set e.kind depth y i f fs low flag a is deep) h
   inside_same reader (fields.Numbers n) q t value h = in_scope (Numbers n e.kind) (fields.Numbers n) t (λ y i f fs a low is deep. of_number octets set e.kind depth y i f fs low n a is deep) h
   inside_same reader (fields.Addresses size) q t value h = in_scope (Addresses size e.kind) (fields.Addresses size) t (λ y i f fs a low is deep. of_address octets set e.kind depth y i f fs low size a is deep) h
@@ -286,11 +286,11 @@ module _ (octets : List ℕ) (set : Family) (depth : ℕ) (x : Kinds) (e : Entry
   inside_same reader own q t value h = nowhere own (scope_below (Attributes set) reader own e) t refl h
 
   below_same : (reader : Option Family) (own : Fields) (q t : List ℕ) (follow : Bool) → is_above depth es ≡ follow → value_payload (Attributes set) reader own follow e octets ≡ Ok q
-      → cond follow (inside_of (depth + 1) (scope_below (Attributes set) reader own e) inner es) (Ok []) ≡ Ok t → spelled.elements_of (elements_at attributes e.kind) own e.kind octets 0 (list_at depth es) ≡ Ok t
+      → cond follow (inside_of (depth + 1) (scope_below (Attributes set) reader own e) inner es) (Ok []) ≡ Ok t → encoded.elements_of (elements_at attributes e.kind) own e.kind octets 0 (list_at depth es) ≡ Ok t
   below_same reader own q t true above value h = inside_same reader own q t value h
-  below_same reader own q t false above value h = none_below (elements_at attributes e.kind) own e.kind depth octets es above ∙ ap Ok (told_same [] t h)
+  below_same reader own q t false above value h = none_below (elements_at attributes e.kind) own e.kind depth octets es above ∙ ap Ok (ok_same [] t h)
 
-  pub attribute_same : (i : ℕ) (a : List ℕ) → is_protinfo set x.address_family e ≡ false → value_of octets (Attributes set) depth x i e es inner ≡ Ok a → spelled.attribute_of attributes octets (lowered depth e) (list_at depth es) ≡ Ok a
+  pub attribute_same : (i : ℕ) (a : List ℕ) → is_protinfo set x.address_family e ≡ false → value_of octets (Attributes set) depth x i e es inner ≡ Ok a → encoded.attribute_of attributes octets (lowered depth e) (list_at depth es) ≡ Ok a
   attribute_same i a row h =
       let own = fields_at attributes e.kind in
       let f = field_of own e.kind e in
@@ -305,9 +305,9 @@ module _ (octets : List ℕ) (set : Family) (depth : ℕ) (x : Kinds) (e : Entry
       let single : payload_of own (lowered depth e) octets ≡ Ok q = payload_depth own e (e.depth - depth) octets ∙ payload_ok (Attributes set) reader follow e octets q lent own value in
       let elements = below_same reader own q t follow refl value others in
       let low : g ≡ f % 65536 = ap (λ b. cond b (0x8000 + 12) (f % 65536)) row in
-      ap₂ (λ r s. spelled.fitted (field_of own e.kind (lowered depth e)) (spelled.before (spelled.alone r) s)) single elements
-      ∙ ap (λ k. spelled.fitted k (Ok (q ++ t))) (field_depth own e.kind e (e.depth - depth))
-      ∙ ap (λ u. spelled.fitted f (Ok u)) (sym join)
+      ap₂ (λ r s. encoded.fitted (field_of own e.kind (lowered depth e)) (encoded.before (encoded.alone r) s)) single elements
+      ∙ ap (λ k. encoded.fitted k (Ok (q ++ t))) (field_depth own e.kind e (e.depth - depth))
+      ∙ ap (λ u. encoded.fitted f (Ok u)) (sym join)
       ∙ ap (λ b. cond b (Ok (frame_bytes (whole f p))) (Err (0, TooLong))) (le-leb (length p) max_payload short)
       ∙ ap Ok (sym (frame_low f p)) ∙ ap (λ k. Ok (frame_bytes (whole k p))) (sym low) ∙ ap Ok (sym frame)
 
@@ -315,44 +315,44 @@ module _ (octets : List ℕ) (set : Family) (depth : ℕ) (x : Kinds) (e : Entry
 
 module _ (octets : List ℕ) (set : Family) (depth : ℕ) (x : Kinds) where
   entry_same : (i : ℕ) (e : Entry) (es : List Entry) (a : List ℕ) → IsPlain set x.address_family e → AllByRecursion (IsPlain set x.address_family) (list_at depth es) → nat_lt e.depth depth ≡ false
-      → cond (e.depth == depth) (value_of octets (Attributes set) depth x i e es (inner_of octets depth x es)) (Ok []) ≡ Ok a → spelled.entry_of (table_of set) octets (lowered depth e) (list_at depth es) ≡ Ok a
+      → cond (e.depth == depth) (value_of octets (Attributes set) depth x i e es (inner_of octets depth x es)) (Ok []) ≡ Ok a → encoded.entry_of (table_of set) octets (lowered depth e) (list_at depth es) ≡ Ok a
   entry_same i e es a plain others low h = elim (cases_Bool (e.depth == depth)) [
     | inl flat ↦
         let here : e.depth - depth ≡ 0 = omega (arith, eqb-true e.depth depth flat) in
-        ap (λ b. cond b (spelled.attribute_of (table_of set) octets (lowered depth e) (list_at depth es)) (Ok [])) (eq-eqb (e.depth - depth) 0 here)
+        ap (λ b. cond b (encoded.attribute_of (table_of set) octets (lowered depth e) (list_at depth es)) (Ok [])) (eq-eqb (e.depth - depth) 0 here)
         ∙ attribute_same octets set depth x e es plain.lent others i a plain.row (sym (ap (λ b. cond b (value_of octets (Attributes set) depth x i e es (inner_of octets depth x es)) (Ok [])) flat) ∙ h)
     | inr deep ↦
         let off : e.depth - depth ≢ 0 = λ z. eqb-false e.depth depth deep (omega (arith, z, ltb-false e.depth depth low)) in
-        let none : spelling_told [] ≡ spelling_told a = sym (ap (λ b. cond b (value_of octets (Attributes set) depth x i e es (inner_of octets depth x es)) (Ok [])) deep) ∙ h in
-        ap (λ b. cond b (spelled.attribute_of (table_of set) octets (lowered depth e) (list_at depth es)) (Ok [])) (ne_eqb (e.depth - depth) 0 off) ∙ ap Ok (told_same [] a none)
+        let none : encoding_ok [] ≡ encoding_ok a = sym (ap (λ b. cond b (value_of octets (Attributes set) depth x i e es (inner_of octets depth x es)) (Ok [])) deep) ∙ h in
+        ap (λ b. cond b (encoded.attribute_of (table_of set) octets (lowered depth e) (list_at depth es)) (Ok [])) (ne_eqb (e.depth - depth) 0 off) ∙ ap Ok (ok_same [] a none)
   ]
 
-  entries_same : (i : ℕ) (es : List Entry) (s : List ℕ) → AllByRecursion (IsPlain set x.address_family) (list_at depth es) → values_of octets (Attributes set) depth x i es ≡ Ok s → spelled.entries_of (table_of set) octets (list_at depth es) ≡ Ok s
-  entries_same i [] s plain h = ap Ok (told_same [] s h)
+  entries_same : (i : ℕ) (es : List Entry) (s : List ℕ) → AllByRecursion (IsPlain set x.address_family) (list_at depth es) → values_of octets (Attributes set) depth x i es ≡ Ok s → encoded.entries_of (table_of set) octets (list_at depth es) ≡ Ok s
+  entries_same i [] s plain h = ap Ok (ok_same [] s h)
   entries_same i (e ∷ es) s plain h =
       let here = cond (e.depth == depth) (value_of octets (Attributes set) depth x i e es (inner_of octets depth x es)) (Ok []) in
       let rest = values_of octets (Attributes set) depth x (i + 1) es in
       elim (cases_Bool (nat_lt e.depth depth)) [
         | inl low ↦
-            let ends : spelling_told [] ≡ spelling_told s = sym (ap (λ b. cond b (Ok []) (before here rest)) low) ∙ h in
-            ap (λ b. spelled.entries_of (table_of set) octets (cond b [] (lowered depth e ∷ list_at depth es))) low ∙ ap Ok (told_same [] s ends)
+            let ends : encoding_ok [] ≡ encoding_ok s = sym (ap (λ b. cond b (Ok []) (before here rest)) low) ∙ h in
+            ap (λ b. encoded.entries_of (table_of set) octets (cond b [] (lowered depth e ∷ list_at depth es))) low ∙ ap Ok (ok_same [] s ends)
         | inr high ↦
             let step : before here rest ≡ Ok s = sym (ap (λ b. cond b (Ok []) (before here rest)) high) ∙ h in
             let (a, b, first, others, join) = before_ok here rest s step in
             let listed : list_at depth (e ∷ es) ≡ lowered depth e ∷ list_at depth es = ap (λ c. cond c [] (lowered depth e ∷ list_at depth es)) high in
             let both = subst (AllByRecursion (IsPlain set x.address_family)) listed plain in
             let own : IsPlain set x.address_family e = record { lent = both.0.lent; row = both.0.row } in
-            ap (spelled.entries_of (table_of set) octets) listed ∙ ap₂ (λ r t. spelled.before r t) (entry_same i e es a own both.1 high first) (entries_same (i + 1) es b both.1 others) ∙ ap Ok (sym join)
+            ap (encoded.entries_of (table_of set) octets) listed ∙ ap₂ (λ r t. encoded.before r t) (entry_same i e es a own both.1 high first) (entries_same (i + 1) es b both.1 others) ∙ ap Ok (sym join)
       ]
 
-begins_same : (depth : ℕ) (es : List Entry) → begins_at depth es ≡ true → spelled.begins_well (list_at depth es) ≡ true
+begins_same : (depth : ℕ) (es : List Entry) → begins_at depth es ≡ true → encoded.begins_well (list_at depth es) ≡ true
 begins_same depth [] h = refl
 begins_same depth (e ∷ es) h =
     let same = eqb-true e.depth depth h in
     let zero_deep : e.depth - depth ≡ 0 = omega (arith, same) in
-    ap (λ b. spelled.begins_well (cond b [] (lowered depth e ∷ list_at depth es))) (le-ltb e.depth depth (omega (arith, same))) ∙ eq-eqb (e.depth - depth) 0 zero_deep
+    ap (λ b. encoded.begins_well (cond b [] (lowered depth e ∷ list_at depth es))) (le-ltb e.depth depth (omega (arith, same))) ∙ eq-eqb (e.depth - depth) 0 zero_deep
 
 pub plain_values : (octets s : List ℕ) (set : Family) (depth i : ℕ) (x : Kinds) (es : List Entry) → AllByRecursion (IsPlain set x.address_family) (list_at depth es) → begins_at depth es ≡ true → values_of octets (Attributes set) depth x i es ≡ Ok s
-    → spelled.spelled_by (table_of set) octets (list_at depth es) ≡ Ok s
+    → encoded.encoded_by (table_of set) octets (list_at depth es) ≡ Ok s
 plain_values octets s set depth i x es plain begins h =
-    ap (λ b. cond b (spelled.entries_of (table_of set) octets (list_at depth es)) (Err (0, BadElement))) (begins_same depth es begins) ∙ entries_same octets set depth x i es s plain h
+    ap (λ b. cond b (encoded.entries_of (table_of set) octets (list_at depth es)) (Err (0, BadElement))) (begins_same depth es begins) ∙ entries_same octets set depth x i es s plain h

@@ -4,15 +4,15 @@ use Rattle.std.proofs.lemmas.Bool.{eq-eqb, ne_eqb, le-ltb}
 use Rattle.link_entries.specs.declared.entry.Entry.{Entry}
 use Rattle.link_requests.specs.declared.level.Scope.{Scope}
 use Rattle.link_requests.specs.Opening.{Kinds}
-use Rattle.link_entries.specs.Spelled.{Spelling, before}
+use Rattle.link_entries.specs.Encoded.{Encoding, before}
 use Rattle.link_requests.specs.Value.{value_of}
 use Rattle.link_requests.specs.Values.{values_of, inner_of}
 
 module _ (octets : List ℕ) (scope : Scope) (depth : ℕ) (x : Kinds) (i : ℕ) (e : Entry) (es : List Entry) where
-  abbrev pub here : Spelling
+  abbrev pub here : Encoding
   here = value_of octets scope depth x i e es (inner_of octets depth x es)
 
-  abbrev pub rest : Spelling
+  abbrev pub rest : Encoding
   rest = values_of octets scope depth x (i + 1) es
 
   -- a value of the list

@@ -14,7 +14,7 @@ use Rattle.link_requests.specs.declared.head.Head.{Head}
 use Rattle.link_requests.specs.declared.level.Scope.{Scope}
 use Rattle.link_requests.specs.declared.level.Scope.TheVariants.{Numbers}
 use Rattle.link_requests.specs.Opening.{Kinds}
-use Rattle.link_entries.specs.Spelled.{Spelling}
+use Rattle.link_entries.specs.Encoded.{Encoding}
 use Rattle.link_requests.specs.Value.{inline, is_protinfo, attribute_fields, row_for, of_message, names_form, type_for, payload_with}
 use Rattle.link_requests.specs.Values.{inner_of}
 use Rattle.link_requests.specs.Request.{packet_with, attributes_of}
@@ -31,10 +31,11 @@ pub record IsHead (head : Head) : Type 0 where
   pub link_flags : head.link_flags < 2 ^ 32
   pub change : head.change < 2 ^ 32
 
--- m is the only message of the bytes s of a request: it has the fields of the head, and the attributes that the values spell
+-- m is the only message of the bytes s of a request: it has the fields of the head, and the attributes that the values
+-- encode to
 pub record IsMessageOf (head : Head) (octets : List ℕ) (es : List Entry) (s : List ℕ) (m : Message) : Type 0 where
   pub attributes : List ℕ
-  pub spelled : attributes_of head octets es ≡ Ok attributes
+  pub encoded : attributes_of head octets es ≡ Ok attributes
   pub packet : packet_of m ≡ packet_with head attributes
   pub at : m.at ≡ 0
   pub next : m.next ≡ length s
@@ -49,9 +50,9 @@ pub record IsHeaderOf (head : Head) (header : LinkHeader) : Type 0 where
 
 -- ---- the attributes of a list
 
--- an attribute: its nla_type, and what its value and those that follow it spell as its payload
+-- an attribute: its nla_type, and what its value and those that follow it encode to as its payload
 abbrev pub Attribute : Type 0
-Attribute = ℕ × Spelling
+Attribute = ℕ × Encoding
 
 -- that of one value, if the list has such a value
 abbrev pub attribute_by : Option Fields → List ℕ → Scope → ℕ → Kinds → ℕ → Entry → List Entry → List Attribute

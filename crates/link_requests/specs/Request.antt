@@ -12,7 +12,7 @@ use Rattle.link_requests.specs.declared.level.Scope.TheVariants.{Attributes}
 use Rattle.link_requests.specs.declared.misfit.RequestError.{RequestError}
 use Rattle.link_requests.specs.declared.misfit.RequestError.TheVariants.{BadType, NoIndex, Value, TooLarge}
 use Rattle.link_requests.specs.Opening.{no_kinds}
-use Rattle.link_entries.specs.Spelled.{Spelling, at_fault}
+use Rattle.link_entries.specs.Encoded.{Encoding, at_fault}
 use Rattle.link_requests.specs.Lists.{unrepeated}
 use Rattle.link_requests.specs.Value.{begins_at}
 use Rattle.link_requests.specs.Values.{values_of}
@@ -71,20 +71,20 @@ packet_with head attributes = record {
 
 -- ---- the request
 
--- what the first n of m values spell; if there are more, the next repeats a list
-abbrev pub up_to : ℕ → ℕ → Spelling → Spelling
+-- what the first n of m values encode to; if there are more, the next repeats a list
+abbrev pub up_to : ℕ → ℕ → Encoding → Encoding
 up_to n m (Ok s) = if n == m then Ok s else Err (n, Repeated)
 up_to n m (Err e) = Err e
 
--- what the values spell
-abbrev pub attributes_of : Head → List ℕ → List Entry → Spelling
+-- what the values encode to
+abbrev pub attributes_of : Head → List ℕ → List Entry → Encoding
 attributes_of head octets es =
     let n = unrepeated [] es in
     if begins_at 0 es then up_to n (length es) (values_of octets (Attributes Link) 0 (no_kinds head.address_family) 0 (take n es))
     else Err (0, BadDepth)
 
 -- the message, if its length is a u32
-abbrev pub fitting : Head → Spelling → Result (List ℕ) RequestError
+abbrev pub fitting : Head → Encoding → Result (List ℕ) RequestError
 fitting head (Ok s) = if nat_lt (32 + length s) (2 ^ 32) then Ok (packet_bytes (packet_with head s)) else Err TooLarge
 fitting head (Err e) = Err (Value (at_fault e))
 

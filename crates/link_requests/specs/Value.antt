@@ -1,4 +1,4 @@
--- What one value of a request spells: its attribute, element or number.
+-- What one value of a request encodes to: its attribute, element or number.
 use Rattle.std.specs.Prelude.{ℕ, ◌+◌, ◌-◌, ◌^◌, ◌%◌, ◌==◌, ◌&&◌, ◌||◌, Bool, true, false, not, List, [], ◌∷◌, take, Option, Some, None, Result, Ok, Err, nat_le, nat_lt, if◌then◌else◌}
 use Rattle.std.specs.Option.{option_map}
 use Rattle.link_base.specs.declared.rows.form.ArrayOf.{ArrayOf}
@@ -19,7 +19,7 @@ use Rattle.link_requests.specs.declared.level.Scope.{Scope}
 use Rattle.link_requests.specs.declared.level.Scope.TheVariants.{Attributes, Elements, Numbers, Addresses}
 use Rattle.link_requests.specs.Names.{is_name, is_kind}
 use Rattle.link_requests.specs.Opening.{Kinds, is_link, set_at}
-use Rattle.link_entries.specs.Spelled.{Spelling, alone, before, fitted}
+use Rattle.link_entries.specs.Encoded.{Encoding, alone, before, fitted}
 
 -- ---- rows
 
@@ -141,37 +141,37 @@ scope_below (Attributes set) reader (fields.Addresses size) e = Some (Addresses 
 scope_below scope reader (fields.Passed form None) e = if form == form_held then option_map Attributes reader else None
 scope_below scope reader own e = None
 
--- what they spell; `inner` is what they spell in a list
-abbrev pub inside_of : ℕ → Option Scope → (Scope → Spelling) → List Entry → Spelling
+-- what they encode to; `inner` is what they encode to in a list
+abbrev pub inside_of : ℕ → Option Scope → (Scope → Encoding) → List Entry → Encoding
 inside_of depth None inner es = Err (0, BadDepth)
 inside_of depth (Some scope) inner es = if begins_at depth es then inner scope else Err (0, BadDepth)
 
-abbrev pub below_of : ℕ → Option Scope → (Scope → Spelling) → List Entry → Spelling
+abbrev pub below_of : ℕ → Option Scope → (Scope → Encoding) → List Entry → Encoding
 below_of depth scope inner es = if is_above depth es then inside_of (depth + 1) scope inner es else Ok []
 
 -- ---- values
 
 -- a number of an array; nothing may follow it
-abbrev pub number_with : ArrayOf → ℕ → Entry → List Entry → Spelling
+abbrev pub number_with : ArrayOf → ℕ → Entry → List Entry → Encoding
 number_with a depth e es = before (alone (payload_of (array_number a) e [])) (if is_above depth es then Err (0, BadDepth) else Ok [])
 
 -- the payload of an attribute with these fields, at this index and depth of a list, with what follows it
-abbrev pub payload_with : List ℕ → Scope → ℕ → Kinds → ℕ → Fields → Entry → List Entry → (Scope → Spelling) → Spelling
+abbrev pub payload_with : List ℕ → Scope → ℕ → Kinds → ℕ → Fields → Entry → List Entry → (Scope → Encoding) → Encoding
 payload_with octets scope depth x i own e es inner =
     let reader = set_for scope x (type_for scope x.address_family i own e) in
     before (alone (value_payload scope reader own (is_above depth es) e octets)) (below_of depth (scope_below scope reader own e) inner es)
 
-abbrev pub attribute_with : List ℕ → Scope → ℕ → Kinds → ℕ → Fields → Entry → List Entry → (Scope → Spelling) → Spelling
+abbrev pub attribute_with : List ℕ → Scope → ℕ → Kinds → ℕ → Fields → Entry → List Entry → (Scope → Encoding) → Encoding
 attribute_with octets scope depth x i own e es inner = fitted (type_for scope x.address_family i own e) (payload_with octets scope depth x i own e es inner)
 
 -- a value, if the list has such a value
-abbrev pub value_with : List ℕ → Scope → ℕ → Kinds → ℕ → Fields → Entry → List Entry → (Scope → Spelling) → Spelling
+abbrev pub value_with : List ℕ → Scope → ℕ → Kinds → ℕ → Fields → Entry → List Entry → (Scope → Encoding) → Encoding
 value_with octets (Numbers a list) depth x i own e es inner = number_with a depth e es
 value_with octets scope depth x i own e es inner = attribute_with octets scope depth x i own e es inner
 
-abbrev pub value_by : Option Fields → List ℕ → Scope → ℕ → Kinds → ℕ → Entry → List Entry → (Scope → Spelling) → Spelling
+abbrev pub value_by : Option Fields → List ℕ → Scope → ℕ → Kinds → ℕ → Entry → List Entry → (Scope → Encoding) → Encoding
 value_by None octets scope depth x i e es inner = Err (0, BadElement)
 value_by (Some own) octets scope depth x i e es inner = if is_placed scope own e then value_with octets scope depth x i own e es inner else Err (0, BadDepth)
 
-abbrev pub value_of : List ℕ → Scope → ℕ → Kinds → ℕ → Entry → List Entry → (Scope → Spelling) → Spelling
+abbrev pub value_of : List ℕ → Scope → ℕ → Kinds → ℕ → Entry → List Entry → (Scope → Encoding) → Encoding
 value_of octets scope depth x i e es inner = value_by (row_for scope x.address_family e) octets scope depth x i e es inner

@@ -1,4 +1,4 @@
--- What the values of a request spell: each list by the set that reads it, to any depth.
+-- What the values of a request encode to: each list by the set that reads it, to any depth.
 use Rattle.std.specs.Prelude.{ℕ, ◌+◌, ◌==◌, ◌&&◌, List, [], ◌∷◌, Option, Some, None, Result, Ok, Err, nat_lt, if◌then◌else◌}
 use Rattle.std.specs.Option.{option_and_then}
 use Rattle.netlink_packet_route.specs.Opening.{without_nul, port_kind_of}
@@ -7,7 +7,7 @@ use Rattle.link_entries.specs.declared.misfit.Misfit.{Misfit}
 use Rattle.link_requests.specs.declared.level.Scope.{Scope}
 use Rattle.link_requests.specs.declared.level.Scope.TheVariants.{Elements}
 use Rattle.link_requests.specs.Opening.{Kinds}
-use Rattle.link_entries.specs.Spelled.{Spelling, before}
+use Rattle.link_entries.specs.Encoded.{Encoding, before}
 use Rattle.link_requests.specs.Value.{value_bytes, value_of}
 
 -- ---- the kinds beside a value
@@ -40,7 +40,7 @@ kinds_in octets scope depth x es = x
 
 -- the values of a list at this depth, up to one that is less deep. Deeper ones belong to the value before them. The first has
 -- index i
-abbrev pub values_of : List ℕ → Scope → ℕ → Kinds → ℕ → List Entry → Spelling
+abbrev pub values_of : List ℕ → Scope → ℕ → Kinds → ℕ → List Entry → Encoding
 values_of octets scope depth x i [] = Ok []
 values_of octets scope depth x i (e ∷ es) =
     if nat_lt e.depth depth then Ok []
@@ -50,6 +50,6 @@ values_of octets scope depth x i (e ∷ es) =
     else Ok [])
     (values_of octets scope depth x (i + 1) es)
 
--- what the values that follow one spell in a list one deeper
-abbrev pub inner_of : List ℕ → ℕ → Kinds → List Entry → Scope → Spelling
+-- what the values that follow one encode to in a list one deeper
+abbrev pub inner_of : List ℕ → ℕ → Kinds → List Entry → Scope → Encoding
 inner_of octets depth x es sub = values_of octets sub (depth + 1) (kinds_in octets sub (depth + 1) x es) 0 es

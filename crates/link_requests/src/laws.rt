@@ -13,7 +13,7 @@ ghost use Rattle.link_messages.specs.Header.{HasLinkHeader};
 ghost use Rattle.link_entries.specs.declared.entry.Entry.{Entry};
 ghost use Rattle.link_base.specs.Table.{Table};
 ghost use Rattle.link_entries.specs.Flat.{Flat};
-ghost use Rattle.link_entries.specs.Spelled.{spelled_by};
+ghost use Rattle.link_entries.specs.Encoded.{encoded_by};
 ghost use Rattle.link_requests.specs.declared.head.Head.{Head};
 ghost use Rattle.link_requests.specs.declared.misfit.RequestError.{RequestError};
 ghost use Rattle.link_requests.specs.declared.level.Scope.{Scope};
@@ -30,7 +30,7 @@ use crate::misfit::RequestError;
 
 /// In what [`write_request`](crate::write_request) writes, [`next_message`](link_messages::next_message) finds one message: its
 /// type, sequence and port are those of the head, its flags are those of the head and NLM_F_REQUEST, its attributes are those
-/// that the values spell, and it ends where the bytes end.
+/// that the values encode to, and it ends where the bytes end.
 pub fn message_found()
     ensures { (head : Head) (octets s : List ℕ) (es : List Entry) (result : Result (Option Message) MessageError) → IsHead head
         → request_of head octets es ≡ Ok s → NextMessage 0 s result
@@ -43,9 +43,9 @@ pub fn header_found()
         → IsMessageOf head octets es s m → HasLinkHeader (packet_of m) header → IsHeaderOf head header }
 {}
 
-/// What the values of a list spell consists of their attributes, in order, with the payload that each value spells with the
-/// values that follow it. It has no others: bytes are attributes in one way only. So a reader finds, as the last attribute of a
-/// type, that of the last value of the type; also in a nested list, and in the list of another set.
+/// What the values of a list encode to consists of their attributes, in order, with the payload that each value encodes
+/// to, with the values that follow it. It has no others: bytes are attributes in one way only. So a reader finds, as the
+/// last attribute of a type, that of the last value of the type; also in a nested list, and in the list of another set.
 pub fn attributes_found()
     ensures message { (head : Head) (octets s : List ℕ) (es : List Entry) → attributes_of head octets es ≡ Ok s
         → Consists s (attributes_in octets (Attributes Link) 0 (no_kinds head.address_family) 0 es) }
@@ -64,13 +64,13 @@ pub fn marks()
     ensures read { (table : Table) (list : List ℕ) (es : List Entry) → Flat table list es → AllByRecursion IsUnmarked es }
 {}
 
-/// Values that refer to their bytes, and among which are no lists of other sets with values, spell what
-/// [`link_entries::write`] writes for them as a list of their own. So the theorems about entries hold for them: what they spell
-/// decodes, and its entries are the values.
+/// Values that refer to their bytes, and among which are no lists of other sets with values, encode to what
+/// [`link_entries::write`] writes for them as a list of their own. So the theorems about entries hold for them: what they
+/// encode to decodes, and its entries are the values.
 pub fn plain_values()
     ensures { (octets s : List ℕ) (set : Family) (depth i : ℕ) (x : Kinds) (es : List Entry)
         → AllByRecursion (IsPlain set x.address_family) (list_at depth es) → begins_at depth es ≡ true
-        → values_of octets (Attributes set) depth x i es ≡ Ok s → spelled_by (table_of set) octets (list_at depth es) ≡ Ok s }
+        → values_of octets (Attributes set) depth x i es ≡ Ok s → encoded_by (table_of set) octets (list_at depth es) ≡ Ok s }
 {}
 
 /// Two errors, or two heads, are equal (`==`) if and only if they are identical.

@@ -3,7 +3,7 @@
 ghost use Rattle.std.specs.Prelude.{◌≡◌, ◌≤◌, None, IfOk, length};
 ghost use Rattle.std.specs.Option.{option_copied};
 ghost use Rattle.link_base.specs.Frame.{max_payload};
-ghost use Rattle.link_entries.specs.Payload.{slice_told};
+ghost use Rattle.link_entries.specs.Payload.{slice_value};
 ghost use Rattle.link_requests.specs.Value.{value_bytes};
 ghost use Rattle.link_requests.specs.Values.{last_among, text_among};
 
@@ -25,7 +25,7 @@ pub(crate) fn value_bytes<'a>(
     entry: &'a Entry,
     octets: &'a [u8],
 ) -> Result<&'a [u8], Misfit>
-    ensures value { slice_told result ≡ value_bytes size entry.now octets.now }
+    ensures value { slice_value result ≡ value_bytes size entry.now octets.now }
     ensures short { IfOk result (λ p. length p.now ≤ max_payload) }
 {
     if entry.offset != INLINE {

@@ -3,8 +3,8 @@
 ghost use Rattle.std.specs.Prelude.{◌≡◌, ◌<◌, ◌+◌, [], Ok, true, length, IfErr};
 ghost use Rattle.link_entries.specs.Fields.{IsNarrow};
 ghost use Rattle.link_requests.specs.Opening.{kinds_of};
-ghost use Rattle.link_entries.specs.Spelled.{before, fitted, at_fault};
-ghost use Rattle.link_entries.specs.Stored.{Spells};
+ghost use Rattle.link_entries.specs.Encoded.{before, fitted, at_fault};
+ghost use Rattle.link_entries.specs.Stored.{Encodes};
 ghost use Rattle.link_requests.specs.Value.{is_above, inside_of, number_with, attribute_with, value_of};
 ghost use Rattle.link_requests.specs.Values.{values_of, inner_of};
 
@@ -14,13 +14,13 @@ use crate::level::{
 use crate::value::put_value_payload;
 use link_base::MAX_PAYLOAD;
 use link_base::rows::form::ArrayOf;
+use link_entries::encoding::encode_number;
 use link_entries::fields::Fields;
-use link_entries::spelling::spell_number;
 use link_entries::storing::{store_header, store_padding};
 use link_entries::{Entry, Misfit, MisfitAt};
 
-/// Stores what the values of a list spell at the start of `room`, up to one that is less deep, if there is room. Returns its
-/// length; saturates at `usize::MAX`.
+/// Stores the bytes of the values of a list at the start of `room`, up to one that is less deep, if there is room.
+/// Returns its length; saturates at `usize::MAX`.
 ///
 /// # Errors
 ///
@@ -32,7 +32,7 @@ pub(crate) fn put_values<'a>(
     octets: &'a [u8],
     room: &mut [u8],
 ) -> Result<usize, MisfitAt>
-    ensures spells { Spells (values_of octets.now level.now.scope level.now.depth (kinds_of level.now.context) 0 entries.now)
+    ensures encodes { Encodes (values_of octets.now level.now.scope level.now.depth (kinds_of level.now.context) 0 entries.now)
         room.old room.new result }
     ensures index { IfErr result (λ e. e.index < length entries.now) }
 {
@@ -60,7 +60,8 @@ pub(crate) fn put_values<'a>(
     Ok(len)
 }
 
-/// Stores what the value at this index of a list spells, with the values in it, which are among `others`. Returns its length.
+/// Stores the attribute of the value at this index of a list, with the values in it, which are among `others`. Returns
+/// its length.
 ///
 /// # Errors
 ///
@@ -74,7 +75,7 @@ fn put_value<'a>(
     octets: &'a [u8],
     room: &mut [u8],
 ) -> Result<usize, MisfitAt>
-    ensures spells { Spells (value_of octets.now level.now.scope level.now.depth (kinds_of level.now.context) index entry.now
+    ensures encodes { Encodes (value_of octets.now level.now.scope level.now.depth (kinds_of level.now.context) index entry.now
         others.now (inner_of octets.now level.now.depth (kinds_of level.now.context) others.now)) room.old room.new result }
     ensures index { IfErr result (λ e. e.index < 1 + length others.now) }
 {
@@ -102,10 +103,10 @@ fn put_number(
     others: &[Entry],
     room: &mut [u8],
 ) -> Result<usize, MisfitAt>
-    ensures spells { Spells (number_with of depth entry.now others.now) room.old room.new result }
+    ensures encodes { Encodes (number_with of depth entry.now others.now) room.old room.new result }
     ensures index { IfErr result (λ e. e.index < 1 + length others.now) }
 {
-    match spell_number(of, entry, room) {
+    match encode_number(of, entry, room) {
         Ok(_) if is_above(depth, others) => Err(MisfitAt {
             index: 1,
             misfit: Misfit::BadDepth,
@@ -131,7 +132,7 @@ fn put_attribute<'a>(
     room: &mut [u8],
 ) -> Result<usize, MisfitAt>
     requires { IsNarrow own }
-    ensures spells { Spells (attribute_with octets.now level.now.scope level.now.depth (kinds_of level.now.context) index own
+    ensures encodes { Encodes (attribute_with octets.now level.now.scope level.now.depth (kinds_of level.now.context) index own
         entry.now others.now (inner_of octets.now level.now.depth (kinds_of level.now.context) others.now))
         room.old room.new result }
     ensures index { IfErr result (λ e. e.index < 1 + length others.now) }
@@ -150,7 +151,7 @@ fn put_attribute<'a>(
     put_below(level, scope, nla_type, others, octets, room)
 }
 
-/// Stores an attribute whose payload is what the deeper values in `others` spell. Returns its length.
+/// Stores an attribute whose payload has the deeper values in `others`. Returns its length.
 ///
 /// # Errors
 ///
@@ -165,7 +166,7 @@ fn put_below<'a>(
     room: &mut [u8],
 ) -> Result<usize, MisfitAt>
     requires { is_above level.now.depth others.now ≡ true }
-    ensures spells { Spells (fitted nla_type (before (Ok []) (inside_of (level.now.depth + 1) scope
+    ensures encodes { Encodes (fitted nla_type (before (Ok []) (inside_of (level.now.depth + 1) scope
         (inner_of octets.now level.now.depth (kinds_of level.now.context) others.now) others.now))) room.old room.new result }
     ensures index { IfErr result (λ e. e.index < 1 + length others.now) }
 {
@@ -186,7 +187,7 @@ fn put_below<'a>(
     Ok(store_header(room, nla_type, size))
 }
 
-/// Stores what the values of a list one deeper spell, if there is such a list. Returns its length.
+/// Stores the bytes of the values of a list one deeper, if there is such a list. Returns its length.
 ///
 /// # Errors
 ///
@@ -200,7 +201,7 @@ fn put_inside<'a>(
     room: &mut [u8],
 ) -> Result<usize, MisfitAt>
     requires { is_above level.now.depth entries.now ≡ true }
-    ensures spells { Spells (inside_of (level.now.depth + 1) scope
+    ensures encodes { Encodes (inside_of (level.now.depth + 1) scope
         (inner_of octets.now level.now.depth (kinds_of level.now.context) entries.now) entries.now) room.old room.new result }
     ensures index { IfErr result (λ e. e.index < length entries.now) }
 {

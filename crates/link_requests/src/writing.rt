@@ -3,7 +3,7 @@
 ghost use Rattle.std.specs.Prelude.{◌≡◌, ◌≤◌, ◌++◌, Ok, bit_or, length, take, IfOk};
 ghost use Rattle.std.specs.Int.{w32, cast_unsigned};
 ghost use Rattle.link_base.specs.Number.{bytes_of};
-ghost use Rattle.link_entries.specs.Stored.{StoresBytes, Spells};
+ghost use Rattle.link_entries.specs.Stored.{StoresBytes, Encodes};
 ghost use Rattle.link_requests.specs.Request.{link_head, attributes_of, request_of, sized, Stores};
 
 use crate::head::{Head, head_error};
@@ -59,8 +59,8 @@ fn measure_into(
 }
 
 /// Writes a request to the start of `out`: the head, with NLM_F_REQUEST, then the attributes that the values of the set `link`
-/// spell, in order. Values may refer to `octets`. Returns the number of bytes written, a multiple of four, or `None` if `out` is
-/// too small. Nothing is allocated.
+/// encode to, in order. Values may refer to `octets`. Returns the number of bytes written, a multiple of four, or `None`
+/// if `out` is too small. Nothing is allocated.
 ///
 /// Values are those of [`link_entries::write`], with these differences:
 ///
@@ -121,7 +121,7 @@ fn place_attributes(
     room: &mut [u8],
 ) -> Result<usize, MisfitAt>
     requires { size ≤ length short.now → attributes_of head.now octets.now values.now ≡ Ok (take size short.now) }
-    ensures { Spells (attributes_of head.now octets.now values.now) room.old room.new result }
+    ensures { Encodes (attributes_of head.now octets.now values.now) room.old room.new result }
 {
     if size > short.len() {
         return put_attributes(head, values, octets, room);
@@ -141,7 +141,7 @@ fn put_attributes(
     octets: &[u8],
     out: &mut [u8],
 ) -> Result<usize, MisfitAt>
-    ensures { Spells (attributes_of head.now octets.now values.now) out.old out.new result }
+    ensures { Encodes (attributes_of head.now octets.now values.now) out.old out.new result }
 {
     if !begins_at(0, values) {
         return Err(MisfitAt {

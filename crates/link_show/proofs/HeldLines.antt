@@ -12,7 +12,7 @@ use Rattle.netlink_packet_route.specs.declared.opening.Context.{Context}
 use Rattle.netlink_packet_route.specs.Family.{table_of}
 use Rattle.link_messages.specs.Finding.{Stretch}
 use Rattle.link_messages.specs.Held.{levels}
-use Rattle.link_messages.specs.Shown.{Holder}
+use Rattle.link_messages.specs.Shown.{Nest}
 use Rattle.link_show.specs.declared.line_options.LineOptions.{LineOptions}
 use Rattle.link_show.specs.Sink.{Output, Gains}
 use Rattle.link_show.specs.Gained.{gains_more, gains_nothing}
@@ -41,7 +41,7 @@ unasked check indent (Some set) list e = Unasked e refl refl
 
 -- ---- an attribute that holds a list
 
-module _ (o : LineOptions) (indent : List ℕ) (level : ℕ) (h : Holder) (inner : List ℕ) (whole : Bool) (old mid : Output) (begun : Gains old mid (indented (indent_in indent level) (title_text h))) where
+module _ (o : LineOptions) (indent : List ℕ) (level : ℕ) (h : Nest) (inner : List ℕ) (whole : Bool) (old mid : Output) (begun : Gains old mid (indented (indent_in indent level) (title_text h))) where
   -- whether it is canonical follows the lines of the list
   pub around_judged : (end new : Output) (verdict : List ℕ) (canonical : Bool) → ShowsJudgement o.check (indent_in indent (level + 1)) h.set h.list verdict canonical → Gains mid end inner → Gains end new verdict
       → Writes (ShowsAround o indent level h inner whole) old new (whole && canonical)

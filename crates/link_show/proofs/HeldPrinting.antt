@@ -15,11 +15,11 @@ use Rattle.netlink_packet_route.specs.Family.{family_name, table_of}
 use Rattle.netlink_packet_route.proofs.Families.{each_family, families_formed}
 use Rattle.link_messages.specs.Finding.{Stretch}
 use Rattle.link_messages.specs.Held.{levels}
-use Rattle.link_messages.specs.Shown.{Holder, holder_at, rows_in}
+use Rattle.link_messages.specs.Shown.{Nest, nest_at, rows_in}
 use Rattle.link_messages.proofs.Holds.{shows_hold}
 use Rattle.link_show.specs.declared.line_options.LineOptions.{LineOptions}
 use Rattle.link_show.specs.List.{label_for}
-use Rattle.link_show.specs.Held.{state_names, is_state, shows_leaf, is_selected, set_text, holder_text, empty_mark, title_text, indent_in, ShowsJudgement, ShowsAround, line_display, LineShower, ShowsSet, ShowsChecked}
+use Rattle.link_show.specs.Held.{state_names, is_state, shows_leaf, is_selected, set_text, nest_text, empty_mark, title_text, indent_in, ShowsJudgement, ShowsAround, line_display, LineShower, ShowsSet, ShowsChecked}
 use Rattle.link_show.specs.Printable.{IsText, AreTexts, has_texts}
 use Rattle.link_show.proofs.Printing.{text, none, one, and, either}
 use Rattle.link_show.proofs.ValuePrinting.{EachName, IsLabelText, label_is_text, enum_is_text, field_is_text, formed_texts, elements_text, fault_is_text}
@@ -53,12 +53,12 @@ mark_is_text : (list : List ℕ) → IsText (empty_mark list)
 mark_is_text [] = text refl
 mark_is_text (b ∷ list) = none
 
-holder_is_text : (label : Option Label) → IsLabelText label → IsText (holder_text label)
-holder_is_text None l = text refl
-holder_is_text (Some label) l = l.0
+nest_is_text : (label : Option Label) → IsLabelText label → IsText (nest_text label)
+nest_is_text None l = text refl
+nest_is_text (Some label) l = l.0
 
-title_is_text : (h : Holder) → IsLabelText h.label → IsText (title_text h)
-title_is_text h l = and (holder_is_text h.label l) (and (set_is_text h.family h.set) (and (peer_is_text h.header) (mark_is_text h.list.1)))
+title_is_text : (h : Nest) → IsLabelText h.label → IsText (title_text h)
+title_is_text h l = and (nest_is_text h.label l) (and (set_is_text h.family h.set) (and (peer_is_text h.header) (mark_is_text h.list.1)))
 
 -- ---- attributes
 
@@ -74,11 +74,11 @@ judgement_texts : (check : Bool) (indent : List ℕ) (set : Option Family) (list
 judgement_texts check indent None list out well spaces (is, e) = subst AreTexts (sym is) no_texts
 judgement_texts check indent (Some set) list out well spaces s = verdict_texts indent spaces check list.0 (table_of set) list.1 out well s
 
-around_texts : (o : LineOptions) (indent : List ℕ) (level : ℕ) (h : Holder) (inner : List ℕ) (whole : Bool) (out : List ℕ) (well : Bool) → IsText indent → IsLabelText h.label → AreTexts inner
+around_texts : (o : LineOptions) (indent : List ℕ) (level : ℕ) (h : Nest) (inner : List ℕ) (whole : Bool) (out : List ℕ) (well : Bool) → IsText indent → IsLabelText h.label → AreTexts inner
     → ShowsAround o indent level h inner whole out well → AreTexts out
 around_texts o indent level h inner whole out well spaces l lines (verdict, sound, judged, joined, all) =
-    let told = judgement_texts o.check (indent_in indent (level + 1)) h.set h.list verdict sound (further indent (level + 1) spaces) judged in
-    subst AreTexts (sym joined) (and_texts (indented_texts (indent_in indent level) (further indent level spaces) (title_is_text h l)) (and_texts lines told))
+    let reported = judgement_texts o.check (indent_in indent (level + 1)) h.set h.list verdict sound (further indent (level + 1) spaces) judged in
+    subst AreTexts (sym joined) (and_texts (indented_texts (indent_in indent level) (further indent level spaces) (title_is_text h l)) (and_texts lines reported))
 
 -- ---- lists
 
@@ -91,8 +91,8 @@ set_texts o n context indent base family list out well spaces s =
     shows_hold (line_display o indent) (λ k m out. AreTexts out) (λ k m. no_texts) (λ k m s t. and_texts)
     (λ m level family at fault. error_texts (indent_in indent level) at (further indent level spaces) (fault_is_text (table_of family) fault (family_has_texts family)))
     (λ m context level family k b content out has shown. leaf_texts (is_state context family k b) (indent_in indent level) (label_for (rows_in family k) b) b content out (further indent level spaces) (rows_text family k b) shown)
-    (λ m level at family k set b content inner whole out well may lines around. around_texts o indent level (holder_at family k (Some set) at b content) inner whole out well spaces (rows_text family k b) lines around)
-    (λ m level at family k b list flagged inner whole out well lines around. around_texts o indent level (holder_at family None None at b (contents.List list flagged)) inner whole out well spaces (rows_text family None b) lines around)
+    (λ m level at family k set b content inner whole out well may lines around. around_texts o indent level (nest_at family k (Some set) at b content) inner whole out well spaces (rows_text family k b) lines around)
+    (λ m level at family k b list flagged inner whole out well lines around. around_texts o indent level (nest_at family None None at b (contents.List list flagged)) inner whole out well spaces (rows_text family None b) lines around)
     n context 0 family (base, list) out well s
 
 -- ---- a list that is checked

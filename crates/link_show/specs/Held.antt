@@ -14,7 +14,7 @@ use Rattle.netlink_packet_route.specs.declared.opening.Context.{Context}
 use Rattle.netlink_packet_route.specs.Family.{Holding, Within, family_name, family_number, holders_of, table_of}
 use Rattle.link_messages.specs.Finding.{Stretch}
 use Rattle.link_messages.specs.Held.{levels}
-use Rattle.link_messages.specs.Shown.{Holder, Display, Shows, rows_in}
+use Rattle.link_messages.specs.Shown.{Nest, Display, Shows, rows_in}
 use Rattle.link_show.specs.declared.line_options.LineOptions.{LineOptions}
 use Rattle.link_show.specs.Sink.{Output, Gains}
 use Rattle.link_show.specs.Fault.{fault_text}
@@ -41,17 +41,17 @@ set_text family None = []
 set_text family (Some set) = if is_selected family set then codes " (" ++ (family_name set ++ codes ")") else []
 
 -- the name of an attribute that holds a list; one without a row is an IFLA_PROTINFO
-abbrev pub holder_text : Option Label → List ℕ
-holder_text None = codes "IFLA_PROTINFO"
-holder_text (Some label) = label.name
+abbrev pub nest_text : Option Label → List ℕ
+nest_text None = codes "IFLA_PROTINFO"
+nest_text (Some label) = label.name
 
 abbrev pub empty_mark : List ℕ → List ℕ
 empty_mark [] = codes " (empty)"
 empty_mark (b ∷ list) = []
 
 -- what is above the lines of a list that an attribute holds
-abbrev pub title_text : Holder → List ℕ
-title_text h = holder_text h.label ++ (set_text h.family h.set ++ (peer_text h.header ++ empty_mark h.list.1))
+abbrev pub title_text : Nest → List ℕ
+title_text h = nest_text h.label ++ (set_text h.family h.set ++ (peer_text h.header ++ empty_mark h.list.1))
 
 -- ---- IFLA_PROTINFO
 
@@ -108,7 +108,7 @@ ShowsJudgement check indent None list out well = (out ≡ []) × (well ≡ true)
 ShowsJudgement check indent (Some set) list out well = ShowsVerdict check indent list.0 (table_of set) list.1 out well
 
 -- a title, and below it what is shown of the list, and whether that is canonical
-abbrev pub ShowsAround : LineOptions → List ℕ → ℕ → Holder → List ℕ → Bool → List ℕ → Bool → Type 0
+abbrev pub ShowsAround : LineOptions → List ℕ → ℕ → Nest → List ℕ → Bool → List ℕ → Bool → Type 0
 ShowsAround o indent level h inner whole out well =
     (verdict : List ℕ) × (sound : Bool) × ShowsJudgement o.check (indent_in indent (level + 1)) h.set h.list verdict sound
     × (out ≡ indented (indent_in indent level) (title_text h) ++ (inner ++ verdict)) × (well ≡ (whole && sound))

@@ -11,12 +11,12 @@ use crate::flags::write_flags;
 use crate::pieces::{Piece, put_pieces};
 use crate::sink::Sink;
 use crate::values::{write_content, write_unlabelled};
-use link_base::NlaBuffer;
 use link_base::rows::form::Width;
 use link_base::rows::label::{KindLabel, Name};
 use link_base::views::attribute_set::AttributeSet;
 use link_base::views::content::{Content, Known};
 use link_base::views::view::Value;
+use link_base::{NlaBuffer, names};
 
 /// The flags of `nla_type` (`include/uapi/linux/netlink.h`).
 pub const TYPE_FLAGS: &[Name] = names![

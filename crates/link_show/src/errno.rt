@@ -1,5 +1,6 @@
 //! The names of errors.
 
+use link_base::names;
 use link_base::rows::label::Name;
 
 /// The names of errors (`include/uapi/asm-generic/errno-base.h`, `errno.h`). Of two names for one number, this is the

@@ -6,12 +6,12 @@ ghost use Rattle.link_base.specs.Buffer.{payload_of};
 ghost use Rattle.link_base.specs.Labels.{label_in};
 ghost use Rattle.netlink_packet_route.specs.Family.{holding_of};
 ghost use Rattle.link_messages.specs.Held.{context_of, levels};
-ghost use Rattle.link_messages.specs.Shown.{holder_of};
+ghost use Rattle.link_messages.specs.Shown.{nest_of};
 ghost use Rattle.link_show.specs.Sink.{Gains};
 ghost use Rattle.link_show.specs.Indents.{indent_text};
 ghost use Rattle.link_show.specs.HeaderText.{peer_text};
 ghost use Rattle.link_show.specs.List.{indented, Writes};
-ghost use Rattle.link_show.specs.Held.{selects, is_selected, set_text, holder_text, empty_mark, title_text, is_state, state_line, WritesLeaf};
+ghost use Rattle.link_show.specs.Held.{selects, is_selected, set_text, nest_text, empty_mark, title_text, is_state, state_line, WritesLeaf};
 ghost use Rattle.link_show.specs.Held.{is_left_out, indent_in, line_display, ShowsSet};
 
 use crate::flags::write_enum;
@@ -181,18 +181,18 @@ fn write_title<W: Sink>(
     held: &HeldList<'_>,
 ) -> Result<(), W::Error>
     ensures { OnOk result (Gains (W.output writer.old) (W.output writer.new)
-        (indented (indent_text indent.entry) (title_text (holder_of held.now)))) }
+        (indented (indent_text indent.entry) (title_text (nest_of held.now)))) }
 {
     write_indent(writer, indent)?;
-    writer.put(holder_name(held.label).as_bytes())?;
+    writer.put(nest_name(held.label).as_bytes())?;
     write_set_name(writer, held.family, held.set)?;
     write_peer(writer, held.header)?;
     writer.put(title_end(held.list.bytes).as_bytes())
 }
 
 /// Returns the name of an attribute that holds a list.
-fn holder_name(label: &Option<KindLabel>) -> &'static str
-    ensures { result.now ≡ holder_text (label_in label.now) }
+fn nest_name(label: &Option<KindLabel>) -> &'static str
+    ensures { result.now ≡ nest_text (label_in label.now) }
 {
     match label {
         Some(label) => label.name,

@@ -3,13 +3,6 @@
 //! nothing.
 #![tactic(auto, using(crate::specs::Gained::chains))]
 
-/// Names, each after its number.
-macro_rules! names {
-    ($($number:literal $text:literal)*) => {
-        &[$(link_base::rows::label::Name { number: $number, text: $text },)*]
-    };
-}
-
 mod addresses;
 mod attributes;
 mod counters;

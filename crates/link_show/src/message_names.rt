@@ -4,6 +4,7 @@ ghost use Rattle.std.specs.Prelude.{◌≡◌};
 ghost use Rattle.link_base.specs.Labels.{names_in};
 ghost use Rattle.link_show.specs.MessageNames.{flags_of};
 
+use link_base::names;
 use link_base::rows::label::Name;
 use link_messages::message_types::{
     NLMSG_DONE, NLMSG_ERROR, NLMSG_NOOP, NLMSG_OVERRUN, RTM_DELLINK, RTM_DELLINKPROP, RTM_GETLINK,

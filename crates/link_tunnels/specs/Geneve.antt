@@ -11,7 +11,7 @@ use Rattle.link_base.specs.Table.{Table, AttrValue, Case, Single, row, row_in, p
 use Rattle.link_base.specs.IpAddress.{four_octets, sixteen_octets}
 use Rattle.link_base.specs.Default.{default_means}
 use Rattle.link_tunnels.specs.GeneveNames.{geneve_df_names}
-use Rattle.link_tunnels.specs.VxlanPortRange.{port_range_fields, port_range_held}
+use Rattle.link_tunnels.specs.GenevePortRange.{geneve_port_range_fields, geneve_port_range_held}
 use Rattle.link_tunnels.specs.declared.geneve.InfoGeneve.{InfoGeneve}
 use Rattle.link_tunnels.specs.declared.geneve.InfoGeneve.TheVariants as infos
 
@@ -32,7 +32,7 @@ geneve_table = prefixed "IFLA_GENEVE_" (
     row 12 "IFLA_GENEVE_TTL_INHERIT" truth ∷
     row 13 "IFLA_GENEVE_DF" (u8_coded geneve_df_names) ∷
     row 14 "IFLA_GENEVE_INNER_PROTO_INHERIT" no_value ∷
-    row 15 "IFLA_GENEVE_PORT_RANGE" (struct_of (layouts.Other (lengths.AtLeast 4)) port_range_fields) ∷ [])
+    row 15 "IFLA_GENEVE_PORT_RANGE" (struct_of (layouts.Other (lengths.Exactly 4)) geneve_port_range_fields) ∷ [])
 
 -- the attribute that a value represents
 abbrev pub geneve_means : InfoGeneve → AttrValue
@@ -50,5 +50,5 @@ geneve_means (infos.Label label) = Case 11 (Single (Raw (bytes_be 4 label)))
 geneve_means (infos.TtlInherit enabled) = Case 12 (Single (Boolean enabled))
 geneve_means (infos.Df df) = Case 13 (Single (Number 1 df))
 geneve_means infos.InnerProtoInherit = Case 14 (Single Nothing)
-geneve_means (infos.PortRange range) = Case 15 (Single (Raw (packed (port_range_held range))))
+geneve_means (infos.PortRange range) = Case 15 (Single (Raw (packed (geneve_port_range_held range))))
 geneve_means (infos.Other other) = default_means other

@@ -3,5 +3,7 @@ pub mod VxlanPortRange
 pub mod VxlanHeader
 pub mod VxlanEquality
 pub mod GeneveNames
+pub mod GenevePortRange
+pub mod GeneveEquality
 pub mod Geneve
 pub mod Vxlan

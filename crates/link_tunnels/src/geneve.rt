@@ -3,12 +3,12 @@
 ghost use Rattle.link_tunnels.specs.Geneve.{geneve_table, geneve_means};
 ghost use Rattle.link_tunnels.specs.GeneveNames.{geneve_df_names};
 
-use crate::vxlan_port_range::VxlanPortRange;
-use link_base::rows::by_rows::{self, AttributeRows, RowVisitor};
-use link_base::rows::label::{KindLabel, Name};
+use crate::geneve_port_range::GenevePortRange;
+use link_base::rows::by_rows::{AttributeRows, RowVisitor};
+use link_base::rows::label::Name;
 use link_base::{
-    Attribute, Be, Coded, DecodeError, DecodeFault, DefaultNla, Meaning, Nla, NlaBuffer,
-    NumberNames, Parseable, Place, Struct, TryClone,
+    Attribute, Be, Coded, DecodeError, DefaultNla, Meaning, Nla, NlaBuffer, NumberNames, Parseable,
+    Place, Struct, TryClone,
 };
 use std::alloc::{AllocError, Global};
 use std::net::{Ipv4Addr, Ipv6Addr};
@@ -47,9 +47,8 @@ pub enum InfoGeneve {
     /// The protocol of the inner packet is copied, so packets without an Ethernet header can be sent
     /// (`IFLA_GENEVE_INNER_PROTO_INHERIT`, a flag without payload).
     InnerProtoInherit,
-    /// UDP source ports of the tunnel's packets (`IFLA_GENEVE_PORT_RANGE`, `struct ifla_geneve_port_range`, which has
-    /// the fields of `struct ifla_vxlan_port_range`).
-    PortRange(VxlanPortRange),
+    /// UDP source ports of the tunnel's packets (`IFLA_GENEVE_PORT_RANGE`, `struct ifla_geneve_port_range`).
+    PortRange(GenevePortRange),
     /// An attribute of any other type.
     Other(DefaultNla),
 }
@@ -64,20 +63,7 @@ impl NumberNames for GeneveDf {
     ghost names = { geneve_df_names };
 
     fn names() -> &'static [Name] {
-        &[
-            Name {
-                number: 0,
-                text: "unset",
-            },
-            Name {
-                number: 1,
-                text: "set",
-            },
-            Name {
-                number: 2,
-                text: "inherit",
-            },
-        ]
+        link_base::names![0 "unset" 1 "set" 2 "inherit"]
     }
 }
 
@@ -100,7 +86,7 @@ macro_rules! rows {
             IFLA_GENEVE_TTL_INHERIT = 12, TtlInherit: bool;
             IFLA_GENEVE_DF = 13, Df: Coded<GeneveDf>;
             IFLA_GENEVE_INNER_PROTO_INHERIT = 14, InnerProtoInherit;
-            IFLA_GENEVE_PORT_RANGE = 15, PortRange: Struct<VxlanPortRange>;
+            IFLA_GENEVE_PORT_RANGE = 15, PortRange: Struct<GenevePortRange>;
         }
     };
 }
@@ -152,26 +138,12 @@ impl Attribute for InfoGeneve {
     ghost use Rattle.std.specs.Prelude.{refl};
     ghost use Rattle.link_base.proofs.TableLaws.{lawful};
     ghost use Rattle.link_base.specs.Equality.{of_cases, thorough_fields};
-    ghost use Rattle.link_tunnels.specs.VxlanEquality.{port_ranges};
+    ghost use Rattle.link_tunnels.specs.GeneveEquality.{geneve_port_ranges};
     ghost use Rattle.link_tunnels.specs.contracts.geneve.InfoGeneve.{enum};
-
-    #[inline(always)]
-    fn check(buffer: &NlaBuffer<'_>) -> Result<(), DecodeFault> {
-        by_rows::check::<Self>(buffer)
-    }
-
-    #[inline(always)]
-    fn label(list: Option<u16>, kind: u16) -> Option<KindLabel> {
-        by_rows::label::<Self>(list, kind)
-    }
-
-    fn canonical(buffer: &NlaBuffer<'_>) -> bool {
-        by_rows::canonical::<Self>(buffer)
-    }
 
     ghost lawful = { lawful geneve_table };
 
     ghost well_formed = { refl };
 
-    ghost thorough = { of_cases enum _ _ (Prim.search (thorough_fields, port_ranges)) };
+    ghost thorough = { of_cases enum _ _ (Prim.search (thorough_fields, geneve_port_ranges)) };
 }

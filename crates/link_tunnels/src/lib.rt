@@ -2,6 +2,7 @@
 #![tactic(auto)]
 
 mod geneve;
+mod geneve_port_range;
 pub mod laws;
 mod vxlan;
 mod vxlan_header;
@@ -9,6 +10,7 @@ mod vxlan_names;
 mod vxlan_port_range;
 
 pub use geneve::InfoGeneve;
+pub use geneve_port_range::GenevePortRange;
 pub use vxlan::InfoVxlan;
 pub use vxlan_header::VxlanHeader;
 pub use vxlan_names::{VxlanDf, VxlanLabelPolicy};

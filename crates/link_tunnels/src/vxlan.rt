@@ -5,11 +5,10 @@ ghost use Rattle.link_tunnels.specs.Vxlan.{vxlan_table, vxlan_means};
 use crate::vxlan_header::VxlanHeader;
 use crate::vxlan_names::{VxlanDf, VxlanLabelPolicy};
 use crate::vxlan_port_range::VxlanPortRange;
-use link_base::rows::by_rows::{self, AttributeRows, RowVisitor};
-use link_base::rows::label::KindLabel;
+use link_base::rows::by_rows::{AttributeRows, RowVisitor};
 use link_base::{
-    Attribute, Be, Coded, DecodeError, DecodeFault, DefaultNla, Meaning, Nla, NlaBuffer, Parseable,
-    Place, Struct, TryClone,
+    Attribute, Be, Coded, DecodeError, DefaultNla, Meaning, Nla, NlaBuffer, Parseable, Place,
+    Struct, TryClone,
 };
 use std::alloc::{AllocError, Global};
 use std::net::{Ipv4Addr, Ipv6Addr};
@@ -195,20 +194,6 @@ impl Attribute for InfoVxlan {
     ghost use Rattle.link_base.specs.Equality.{of_cases, thorough_fields};
     ghost use Rattle.link_tunnels.specs.VxlanEquality.{port_ranges, headers};
     ghost use Rattle.link_tunnels.specs.contracts.vxlan.InfoVxlan.{enum};
-
-    #[inline(always)]
-    fn check(buffer: &NlaBuffer<'_>) -> Result<(), DecodeFault> {
-        by_rows::check::<Self>(buffer)
-    }
-
-    #[inline(always)]
-    fn label(list: Option<u16>, kind: u16) -> Option<KindLabel> {
-        by_rows::label::<Self>(list, kind)
-    }
-
-    fn canonical(buffer: &NlaBuffer<'_>) -> bool {
-        by_rows::canonical::<Self>(buffer)
-    }
 
     ghost lawful = { lawful vxlan_table };
 

@@ -15,20 +15,7 @@ impl NumberNames for VxlanDf {
     ghost names = { vxlan_df_names };
 
     fn names() -> &'static [Name] {
-        &[
-            Name {
-                number: 0,
-                text: "unset",
-            },
-            Name {
-                number: 1,
-                text: "set",
-            },
-            Name {
-                number: 2,
-                text: "inherit",
-            },
-        ]
+        link_base::names![0 "unset" 1 "set" 2 "inherit"]
     }
 }
 
@@ -42,15 +29,6 @@ impl NumberNames for VxlanLabelPolicy {
     ghost names = { label_policy_names };
 
     fn names() -> &'static [Name] {
-        &[
-            Name {
-                number: 0,
-                text: "fixed",
-            },
-            Name {
-                number: 1,
-                text: "inherit",
-            },
-        ]
+        link_base::names![0 "fixed" 1 "inherit"]
     }
 }

@@ -11,7 +11,7 @@ ghost use Rattle.link_vlan_can.specs.CanLimits.{limits_view, limits_with, limits
 use bstr::ByteSlice;
 use link_base::rows::fields::Field;
 use link_base::rows::form::Form;
-use link_base::rows::label::Name;
+use link_base::rows::label::{KindLabel, Name};
 use link_base::{
     DecodeError, DecodeFault, DefaultNla, Lengths, NlaBuffer, PayloadClass, before_nul,
     check_at_least, emit_numbers, is_limits, u32s_at,
@@ -160,8 +160,6 @@ impl CanBitTimingConst {
 impl PayloadClass for CanBitTimingConst {
     type Value = CanBitTimingConst;
 
-    type Element = DefaultNla;
-
     const FORM: Form = Form::Limits;
 
     ghost FORM = { forms.Limits };
@@ -179,7 +177,10 @@ impl PayloadClass for CanBitTimingConst {
         Lengths::AtLeast(48).check(kind, payload)
     }
 
-    fn elements() {}
+    #[inline(always)]
+    fn element_label(_kind: u16) -> Option<KindLabel> {
+        None
+    }
 
     #[inline]
     fn names() -> &'static [Name] {

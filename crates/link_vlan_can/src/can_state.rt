@@ -15,31 +15,13 @@ impl NumberNames for CanState {
     ghost names = { can_state_names };
 
     fn names() -> &'static [Name] {
-        &[
-            Name {
-                number: 0,
-                text: "ERROR-ACTIVE",
-            },
-            Name {
-                number: 1,
-                text: "ERROR-WARNING",
-            },
-            Name {
-                number: 2,
-                text: "ERROR-PASSIVE",
-            },
-            Name {
-                number: 3,
-                text: "BUS-OFF",
-            },
-            Name {
-                number: 4,
-                text: "STOPPED",
-            },
-            Name {
-                number: 5,
-                text: "SLEEPING",
-            },
+        link_base::names![
+            0 "ERROR-ACTIVE"
+            1 "ERROR-WARNING"
+            2 "ERROR-PASSIVE"
+            3 "BUS-OFF"
+            4 "STOPPED"
+            5 "SLEEPING"
         ]
     }
 }

@@ -7,11 +7,11 @@ ghost use Rattle.link_base.proofs.TableLaws.{lawful};
 ghost use Rattle.link_vlan_can.specs.HsrProtocol.{hsr_protocol_names, hsr_protocol_seen, hsr_protocol_cases};
 ghost use Rattle.link_vlan_can.specs.Hsr.{hsr_table, hsr_means};
 
-use link_base::rows::by_rows::{self, AttributeRows, RowVisitor};
-use link_base::rows::label::{KindLabel, Name};
+use link_base::rows::by_rows::{AttributeRows, RowVisitor};
+use link_base::rows::label::Name;
 use link_base::{
-    Attribute, DecodeError, DecodeFault, DefaultNla, Meaning, Named, NamedNumber, Nla, NlaBuffer,
-    Parseable, Place, TryClone,
+    Attribute, DecodeError, DefaultNla, Meaning, Named, NamedNumber, Nla, NlaBuffer, Parseable,
+    Place, TryClone,
 };
 use std::alloc::{AllocError, Global};
 use std::fmt;
@@ -180,20 +180,6 @@ impl AttributeRows for InfoHsr {
 impl Attribute for InfoHsr {
     ghost use Rattle.link_vlan_can.specs.contracts.hsr.HsrProtocolNamedNumber.TheImpl.Laws as protocols;
     ghost use Rattle.link_vlan_can.specs.contracts.hsr.InfoHsr.{enum};
-
-    #[inline(always)]
-    fn check(buffer: &NlaBuffer<'_>) -> Result<(), DecodeFault> {
-        by_rows::check::<Self>(buffer)
-    }
-
-    #[inline(always)]
-    fn label(list: Option<u16>, kind: u16) -> Option<KindLabel> {
-        by_rows::label::<Self>(list, kind)
-    }
-
-    fn canonical(buffer: &NlaBuffer<'_>) -> bool {
-        by_rows::canonical::<Self>(buffer)
-    }
 
     ghost lawful = { lawful hsr_table };
 

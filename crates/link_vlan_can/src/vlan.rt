@@ -7,11 +7,10 @@ ghost use Rattle.link_base.specs.Equality.{of_cases, thorough_fields, pairs, num
 ghost use Rattle.link_vlan_can.specs.Vlan.{mapping_rows, mapping_leaf, vlan_table, vlan_means};
 
 use crate::vlan_flags::VlanFlags;
-use link_base::rows::by_rows::{self, AttributeRows, RowVisitor};
-use link_base::rows::label::KindLabel;
+use link_base::rows::by_rows::{AttributeRows, RowVisitor};
 use link_base::{
-    Attribute, DecodeError, DecodeFault, DefaultNla, MaskedFlags, Meaning, NestedAttribute,
-    NestedList, Nla, NlaBuffer, Parseable, Place, TryClone, VlanProtocol,
+    Attribute, DecodeError, DefaultNla, MaskedFlags, Meaning, NestedAttribute, NestedList, Nla,
+    NlaBuffer, Parseable, Place, TryClone, VlanProtocol,
 };
 use std::alloc::{AllocError, Global};
 
@@ -80,20 +79,6 @@ impl AttributeRows for VlanQosMapping {
 
 impl Attribute for VlanQosMapping {
     ghost use Rattle.link_vlan_can.specs.contracts.vlan.VlanQosMapping.{enum};
-
-    #[inline(always)]
-    fn check(buffer: &NlaBuffer<'_>) -> Result<(), DecodeFault> {
-        by_rows::check::<Self>(buffer)
-    }
-
-    #[inline(always)]
-    fn label(list: Option<u16>, kind: u16) -> Option<KindLabel> {
-        by_rows::label::<Self>(list, kind)
-    }
-
-    fn canonical(buffer: &NlaBuffer<'_>) -> bool {
-        by_rows::canonical::<Self>(buffer)
-    }
 
     ghost lawful = { lawful (lift_table mapping_rows) };
 
@@ -195,20 +180,6 @@ impl Attribute for InfoVlan {
     ghost use Rattle.link_vlan_can.specs.contracts.vlan.VlanQosMappingAttribute.TheImpl.Laws as mappings;
     ghost use Rattle.link_vlan_can.specs.VlanFlags.{masked};
     ghost use Rattle.link_vlan_can.specs.contracts.vlan.InfoVlan.{enum};
-
-    #[inline(always)]
-    fn check(buffer: &NlaBuffer<'_>) -> Result<(), DecodeFault> {
-        by_rows::check::<Self>(buffer)
-    }
-
-    #[inline(always)]
-    fn label(list: Option<u16>, kind: u16) -> Option<KindLabel> {
-        by_rows::label::<Self>(list, kind)
-    }
-
-    fn canonical(buffer: &NlaBuffer<'_>) -> bool {
-        by_rows::canonical::<Self>(buffer)
-    }
 
     ghost lawful = { lawful vlan_table };
 

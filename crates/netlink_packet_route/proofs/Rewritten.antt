@@ -3,7 +3,7 @@ use Rattle.std.proofs.Common.{◌≡◌, ◌↔◌, ℕ, ◌<◌, ◌≤◌, Lis
 use Rattle.std.specs.List.{AllZip, AllByRecursion}
 use Rattle.std.proofs.lemmas.List.{length-append, take_at}
 use Rattle.link_base.specs.Number.{IsBytes}
-use Rattle.link_base.specs.Frame.{Frame, AreFrames, frame_bytes, pad, spelled, frame_fault, max_payload}
+use Rattle.link_base.specs.Frame.{Frame, AreFrames, frame_bytes, pad, bytes_of_frames, frame_fault, max_payload}
 use Rattle.link_base.specs.Wire.{Reading, FrameGives, Wire}
 use Rattle.link_base.specs.Table.{Table, AttrValue, Gives, Fits, Decodes, Canonical, Rewriting, cut, written_payload, written_list}
 use Rattle.link_base.specs.Lawful.{IsLawful}
@@ -17,13 +17,13 @@ use Rattle.link_base.proofs.Cuts.{AreFrames-head}
 use Rattle.link_base.proofs.FrameBytes.{frame_fault-frame, length-frame_bytes}
 use Rattle.link_base.proofs.Readings.{one_values, not_both}
 use Rattle.link_base.proofs.Rewritings.{fixed_iff_canonical, never_longer, reads_back, second, second_canonical, third, one_rewriting, canonical_reads, canonical_stays}
-use Rattle.netlink_packet_route.specs.Rewrite.{RewriteFaultUnless, TooLongIff, SucceedsIf, WritesValues, ReadsBack, Settles, IsRewritten, Rewrites, WritesOrLacksRoom, KeepsOrLacksRoom}
+use Rattle.netlink_packet_route.specs.Rewrite.{RewriteFaultUnless, TooLongIff, SucceedsIf, WritesValues, ReadsBack, Converges, IsRewritten, Rewrites, WritesOrLacksRoom, KeepsOrLacksRoom}
 
 -- a string that reads as some value begins with a frame
-begins_by : {V : Type 0} (gives : Reading V) (xs : List Frame) (vs : List V) → AreFrames xs → AllZip (λ x v. FrameGives gives x (Ok v)) xs vs → 0 < length vs → frame_fault (spelled xs) ≡ None
+begins_by : {V : Type 0} (gives : Reading V) (xs : List Frame) (vs : List V) → AreFrames xs → AllZip (λ x v. FrameGives gives x (Ok v)) xs vs → 0 < length vs → frame_fault (bytes_of_frames xs) ≡ None
 begins_by gives xs [] are read some = absurd (omega arith)
 begins_by gives [] (v ∷ vs) are read some = absurd read
-begins_by gives (x ∷ xs) (v ∷ vs) are read some = frame_fault-frame x (spelled xs) (AreFrames-head x xs are)
+begins_by gives (x ∷ xs) (v ∷ vs) are read some = frame_fault-frame x (bytes_of_frames xs) (AreFrames-head x xs are)
 
 pub begins : {V : Type 0} (gives : Reading V) (s : List ℕ) (vs : List V) → Wire gives s vs → 0 < length vs → frame_fault s ≡ None
 begins gives s vs w some = ap frame_fault w.string.string ∙ begins_by gives w.frames vs w.string.frames w.values some
@@ -51,8 +51,8 @@ module _ {table : Table} (law : IsLawful table) (s : List ℕ) (hs : IsBytes s) 
   pub back : ReadsBack table s t
   back vs w = subst (λ us. Wire (Gives table) t (map cut us)) (one_values law.reading s r.values vs r.wire w) (reads_back law.reading law.holding law.writing s t hs r)
 
-  pub settles : Settles table t
-  settles =
+  pub converges : Converges table t
+  converges =
       let own = third law.reading law.holding law.writing s t hs r in
       record {
         second = written_list (map cut r.values);
@@ -116,7 +116,7 @@ is_rewritten law s hs t r = record {
   same = same_iff law s hs t r;
   no_longer = no_longer law s hs t r;
   back = back law s hs t r;
-  settles = settles law s hs t r;
+  converges = converges law s hs t r;
 }
 
 -- what is written for values that were read and all fit
@@ -153,11 +153,11 @@ memory_of_writing vs r (write_errors.TooLong i) P is h some = rw is tt
 memory_of_writing vs r (write_errors.Memory e) P is h some = rw is (some h.1)
 
 -- a string has no more values than bytes
-no_more : {V : Type 0} (gives : Reading V) (xs : List Frame) (vs : List V) → AllZip (λ x v. FrameGives gives x (Ok v)) xs vs → length vs ≤ length (spelled xs)
+no_more : {V : Type 0} (gives : Reading V) (xs : List Frame) (vs : List V) → AllZip (λ x v. FrameGives gives x (Ok v)) xs vs → length vs ≤ length (bytes_of_frames xs)
 no_more gives [] [] read = omega arith
 no_more gives [] (v ∷ vs) read = absurd read
 no_more gives (x ∷ xs) [] read = absurd read
-no_more gives (x ∷ xs) (v ∷ vs) read = omega (arith, no_more gives xs vs read.1, length-append (frame_bytes x) (spelled xs), length-frame_bytes x)
+no_more gives (x ∷ xs) (v ∷ vs) read = omega (arith, no_more gives xs vs read.1, length-append (frame_bytes x) (bytes_of_frames xs), length-frame_bytes x)
 
 pub no_more_values : {V : Type 0} (gives : Reading V) (s : List ℕ) (vs : List V) → Wire gives s vs → length vs ≤ length s
 no_more_values gives s vs w = omega (arith, ap length w.string.string, no_more gives w.frames vs w.values)

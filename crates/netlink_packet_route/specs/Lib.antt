@@ -61,6 +61,7 @@ pub use Rattle.link_tunnels.specs.VxlanPortRange
 pub use Rattle.link_tunnels.specs.VxlanHeader
 pub use Rattle.link_tunnels.specs.Vxlan
 pub use Rattle.link_tunnels.specs.GeneveNames
+pub use Rattle.link_tunnels.specs.GenevePortRange
 pub use Rattle.link_tunnels.specs.Geneve
 pub use Rattle.link_devices.specs.Vrf
 pub use Rattle.link_devices.specs.VrfPort

@@ -50,7 +50,7 @@ abbrev pub ReadsBack : Table → List ℕ → List ℕ → Type 0
 ReadsBack table s t = (vs : List AttrValue) → Wire (Gives table) s vs → Wire (Gives table) t (map cut vs)
 
 -- re-encoding t gives a canonical list; re-encoding that list gives the same bytes, and only these
-pub record Settles (table : Table) (t : List ℕ) : Type 0 where
+pub record Converges (table : Table) (t : List ℕ) : Type 0 where
   pub second : List ℕ
   pub is : Rewriting table t second
   pub canonical : Canonical table second
@@ -63,7 +63,7 @@ pub record IsRewritten (table : Table) (s t : List ℕ) : Type 0 where
   pub same : (t ≡ s) ↔ Canonical table s
   pub no_longer : length t ≤ pad (length s)
   pub back : ReadsBack table s t
-  pub settles : Settles table t
+  pub converges : Converges table t
 
 -- text is in the first n bytes of the new buffer, which is otherwise equal to the old buffer; n is its length
 pub record StandsInFront (old new text : List ℕ) (n : ℕ) : Type 0 where

@@ -2,7 +2,7 @@
 //! classes and structs are made of. The calls that read, write, check and view lists are in [`link`](crate::link) and
 //! [`views`](crate::views). They accept every type that implements [`Attribute`].
 //!
-//! The macros `by_rows!`, `by_names!`, `by_flags!`, `by_fields!` and `fields!` are those of the crate `link_base`. A crate
+//! The macros `by_rows!`, `by_names!`, `by_flags!`, `by_fields!`, `fields!` and `names!` are those of `link_base`. A crate
 //! that calls a macro must depend on the crate that defines it, so list `link_base` in `crates.txt` too.
 
 // The traits of an attribute set, what their methods take and return, and the functions that `by_rows!` calls.

@@ -4,7 +4,7 @@ ghost use Rattle.std.specs.Prelude.{◌≡◌, ◌↔◌, ℕ, List, IsTrue};
 ghost use Rattle.std.specs.Option.{option_copied};
 ghost use Rattle.link_base.specs.Table.{Canonical, Rewriting};
 ghost use Rattle.netlink_packet_route.specs.Family.{table_of, holding_of};
-ghost use Rattle.netlink_packet_route.specs.Rewrite.{Settles};
+ghost use Rattle.netlink_packet_route.specs.Rewrite.{Converges};
 ghost use Rattle.netlink_packet_route.specs.declared.family.Family.{Family};
 ghost use Rattle.netlink_packet_route.specs.declared.family.Holder.{Holder};
 ghost use Rattle.netlink_packet_route.specs.declared.hex_text.HexError.{HexError};
@@ -28,8 +28,8 @@ pub fn equality()
 {}
 
 /// States that re-encoding `t` gives a canonical list if `t` is the output of [`rewrite`](crate::rewrite) (or satisfies
-/// `Settles`, as that output does).
+/// `Converges`, as that output does).
 pub fn second_rewriting()
-    ensures { (family : Family) (t u : List ℕ) → Settles (table_of family) t → Rewriting (table_of family) t u
+    ensures { (family : Family) (t u : List ℕ) → Converges (table_of family) t → Rewriting (table_of family) t u
         → Canonical (table_of family) u }
 {}

@@ -28,14 +28,14 @@ pub use link_bridge::{
 };
 pub use link_common::{
     AddrGenMode, AfSpecInet, AfSpecInet6, AfSpecMctp, AfSpecUnspec, CacheInfo, DevlinkPort,
-    DpllPin, ExtMask, Inet6Flags, Ipv4Conf, Ipv6Conf, LinkAttribute, LinkEvent, LinkInfo, LinkMap,
-    LinkMode, LinkProperty, LinkStats, LinkStats64, LinkXdp, OperState, ProtoDownReason,
-    ReplyAttribute, XdpAttached, XdpFlags,
+    DpllPin, ExtMask, Icmp6Stats, Inet6Flags, Ipv4Conf, Ipv6Conf, Ipv6Stats, LinkAttribute,
+    LinkEvent, LinkInfo, LinkMap, LinkMode, LinkProperty, LinkStats, LinkStats64, LinkXdp,
+    OperState, ProtoDownReason, ReplyAttribute, XdpAttached, XdpFlags,
 };
 pub use link_devices::{
     InfoIpVlan, InfoMacVlan, InfoNetkit, InfoTun, InfoVeth, InfoVrf, InfoVrfPort, MacVlanAddress,
 };
-pub use link_tunnels::{InfoGeneve, InfoVxlan, VxlanHeader, VxlanPortRange};
+pub use link_tunnels::{GenevePortRange, InfoGeneve, InfoVxlan, VxlanHeader, VxlanPortRange};
 pub use link_vlan_can::{
     CanBerrCounter, CanBitTiming, CanBitTimingConst, CanClock, CanCtrlMode, CanCtrlModeExt,
     CanCtrlModeFlags, CanTdc, HsrProtocol, InfoCan, InfoDsa, InfoHsr, InfoVlan, VlanFlags,

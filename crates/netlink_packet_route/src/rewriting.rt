@@ -7,7 +7,7 @@ ghost use Rattle.link_base.specs.Answers.{OnRewriteMemory};
 ghost use Rattle.link_base.specs.Rewritten.{IsUnfit};
 ghost use Rattle.netlink_packet_route.specs.Family.{table_of};
 ghost use Rattle.netlink_packet_route.specs.Rewrite.{ReadAndWritten, RewriteAnswers};
-ghost use Rattle.netlink_packet_route.specs.Rewrite.{RewriteFaultUnless, TooLongIff, SucceedsIf, ReadsBack, Settles};
+ghost use Rattle.netlink_packet_route.specs.Rewrite.{RewriteFaultUnless, TooLongIff, SucceedsIf, ReadsBack, Converges};
 
 use crate::by_family;
 use crate::family::Family;
@@ -36,7 +36,7 @@ pub fn rewrite(alloc: Global, family: Family, bytes: &[u8]) -> Result<Vec<u8>, R
     // Decodes to the same values, except that CAN controller names are truncated.
     ensures back { IfOk result (λ out. ReadsBack (table_of family) bytes.now out.items) }
     // Re-encoding the output gives a canonical list, and re-encoding that list returns it unchanged.
-    ensures settles { IfOk result (λ out. Settles (table_of family) out.items) }
+    ensures converges { IfOk result (λ out. Converges (table_of family) out.items) }
 {
     by_family!(family, rewrite_as(alloc, bytes))
 }
@@ -56,7 +56,7 @@ pub fn rewrite_as<F: Attribute>(alloc: Global, bytes: &[u8]) -> Result<Vec<u8>, 
     ensures same { IfOk result (λ out. (out.items ≡ bytes.now) ↔ Canonical F.table bytes.now) }
     ensures no_longer { IfOk result (λ out. length out.items ≤ pad (length bytes.now)) }
     ensures back { IfOk result (λ out. ReadsBack F.table bytes.now out.items) }
-    ensures settles { IfOk result (λ out. Settles F.table out.items) }
+    ensures converges { IfOk result (λ out. Converges F.table out.items) }
 {
     let (_values, out) = read_and_write::<F>(alloc, bytes)?;
     Ok(out)

@@ -365,12 +365,14 @@ static void asking(void) {
     check(!nlroute_read_row(NLROUTE_BOND, NLROUTE_IFLA_BOND_MODE, 0, 0, &row), "a type has a row");
     check(row.form == NLROUTE_FORM_NAMED && row.width == 1 && !row.is_list && row.flags == 0, "the row of an enum");
     check(!nlroute_read_row(NLROUTE_BOND, NLROUTE_IFLA_BOND_ARP_IP_TARGET, 3, 1, &row), "an address has a row");
-    check(row.form == NLROUTE_FORM_IPV4 && row.width == 4, "the row of an address");
+    check(row.form == NLROUTE_FORM_IPV4 && row.width == 4 && row.unit == NLROUTE_UNIT_NONE, "the row of an address");
+    check(!nlroute_read_row(NLROUTE_BOND, NLROUTE_IFLA_BOND_MIIMON, 0, 0, &row), "a time has a row");
+    check(row.form == NLROUTE_FORM_UNSIGNED && row.unit == NLROUTE_UNIT_MILLISECONDS, "its unit");
     struct nlroute_row list;
     check(!nlroute_read_row(NLROUTE_BRIDGE, NLROUTE_IFLA_BR_MCAST_QUERIER_STATE, 0, 0, &list), "a list has a row");
     check(list.width == 0 && list.flags == 0x8000 && list.form == NLROUTE_FORM_LIST && list.is_list == 1, "its numbers");
     ptrdiff_t no_element = nlroute_read_row(NLROUTE_BOND, NLROUTE_IFLA_BOND_MODE, 0, 1, &row);
-    check(no_element == NLROUTE_BAD_ELEMENT && row.width == 4, "-9 for an element of a number");
+    check(no_element == NLROUTE_BAD_ELEMENT && row.width == 4 && row.unit == NLROUTE_UNIT_MILLISECONDS, "-9 for no element");
     check(nlroute_kind_of_in(NLROUTE_BOND, NLROUTE_IFLA_BOND_AD_INFO, "IFLA_BOND_AD_INFO_NUM_PORTS", 27) == 2, "an element");
     type = nlroute_number(NLROUTE_IFLA_BOND_MODE, 0);
     check(!nlroute_number_of(NLROUTE_BOND, &type, "802.3ad", 7, &number) && number == 4, "a mode by its name");

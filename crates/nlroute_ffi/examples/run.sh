@@ -114,7 +114,7 @@ END
 if command -v c++ >/dev/null; then
     compile_cpp structs
     prints structs "the fields of a struct are printed in C++" <<'END'
-a struct of 4 bytes
+a struct of 4 bytes with no unit
 low at 0: 32768
 high at 2: 65535
 END

@@ -29,7 +29,8 @@ static ptrdiff_t print_ports(const uint8_t *list, size_t len) {
     ptrdiff_t code = nlroute_read_row(NLROUTE_VXLAN, kind, 0, 0, &r);
     if (code == 0) code = nlroute_find(NLROUTE_VXLAN, list, len, kind, &v);
     if (code != 0) return code;
-    std::printf("a struct of %" PRIu32 " bytes\n", r.width);
+    const char *unit = r.unit == NLROUTE_UNIT_NONE ? "no unit" : "a unit";
+    std::printf("a struct of %" PRIu32 " bytes with %s\n", r.width, unit);
     for (size_t i = 0; (code = nlroute_read_field(NLROUTE_VXLAN, &v, i, list, len, &f)) == 0; i++)
         std::printf("%s at %" PRIu64 ": %" PRIu64 "\n", f.name, f.offset, f.number);
     return code == NLROUTE_ABSENT ? 0 : code;

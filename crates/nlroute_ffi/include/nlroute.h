@@ -550,6 +550,20 @@ ptrdiff_t nlroute_flag_name(uint32_t family, const struct nlroute_value *value, 
  * list, and do not allocate. A name is len bytes, without a NUL.
  */
 
+/* What a number counts. Texts show the unit, as in "100 ms" and "1500 (15.00 s)". */
+enum nlroute_unit {
+    NLROUTE_UNIT_NONE = 0,            /* nothing: a count, a priority, a number of an enum, or no number at all */
+    NLROUTE_UNIT_CLOCK_TICKS = 1,     /* 1/100 s (USER_HZ) */
+    NLROUTE_UNIT_MILLISECONDS = 2,
+    NLROUTE_UNIT_SECONDS = 3,
+    NLROUTE_UNIT_BITS_PER_SECOND = 4,
+    NLROUTE_UNIT_OHMS = 5,
+    NLROUTE_UNIT_NANOSECONDS = 6,
+    NLROUTE_UNIT_HERTZ = 7,
+    NLROUTE_UNIT_INTERFACE_INDEX = 8, /* nothing: it is the index of a link */
+    NLROUTE_UNIT_MASK = 9             /* nothing: it is a bit mask or has several parts, as a TOS; texts show it in hex */
+};
+
 /* What values of an attribute type hold, and how it is written. */
 struct nlroute_row {
     uint32_t width;  /* bytes of a number of the type, or of each of its two; of an address; of a bridge ID, 8; of the
@@ -558,7 +572,8 @@ struct nlroute_row {
     uint16_t flags;  /* flags of nla_type that nlroute_write() writes: NLA_F_NESTED for some lists; else 0 */
     uint8_t form;    /* an nlroute_form; NLROUTE_FORM_UNKNOWN if the type is not known */
     uint8_t is_list; /* 1 if elements follow, else 0 */
-}; /* 8 bytes, without padding */
+    uint32_t unit;   /* an nlroute_unit: what its number counts, or each of its array; of a struct, NLROUTE_UNIT_NONE */
+}; /* 12 bytes, without padding */
 
 /*
  * Stores in *row what values of type `kind` hold if depth is 0, or those of their element `inner` if depth is 1, and

@@ -288,8 +288,8 @@ static inline const struct nlroute_value *nlroute_no_values(void)
 
 /*
  * Writes a request to out, a buffer of room bytes: the head with NLM_F_REQUEST, then the attributes of the set NLROUTE_LINK
- * that the values spell, in order. Values may refer to the len bytes at octets. Returns the length of the request, a multiple
- * of four; the rest of out, and *at, are unchanged. Does not allocate.
+ * that the values encode to, in order. Values may refer to the len bytes at octets. Returns the length of the request, a
+ * multiple of four; the rest of out, and *at, are unchanged. Does not allocate.
  *
  * The values are those of nlroute_write(), with these differences:
  * - The `inner` of an attribute of the message is NLROUTE_OF_MESSAGE. It may be another one if the attribute has to have its
@@ -300,8 +300,8 @@ static inline const struct nlroute_value *nlroute_no_values(void)
  *   NLROUTE_FORM_HELD. Structs may have NLROUTE_FORM_OF_KIND. If the offset of bytes, of a text or of a struct is
  *   NLROUTE_INLINE, they are the first `length` octets of the value itself.
  * - If the offset of a list of another set is NLROUTE_INLINE, the values of this list follow, one deeper; its length does not
- *   matter. The kinds in an IFLA_LINKINFO, before or after the data, the last of each, and the address family of the head tell
- *   which set reads them.
+ *   matter. The kinds in an IFLA_LINKINFO, before or after the data, the last of each, and the address family of the head
+ *   tell which set reads them.
  * - With AF_BRIDGE, an IFLA_PROTINFO of NLROUTE_FORM_HELD is such a list. It is written with NLA_F_NESTED.
  * - Names and kinds are checked. A NUL at their end is not part of them.
  *

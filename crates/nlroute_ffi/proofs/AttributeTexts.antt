@@ -23,7 +23,7 @@ use Rattle.link_base.specs.Coherent.{is_single, IsShapeOf}
 use Rattle.link_base.specs.Table.{Row, Shape, One, Nested, Addresses, Table, GivesBy, row_at, class_at, form_at, Label, label_at, label_by}
 use Rattle.link_base.specs.WellFormed.{is_shape, is_table}
 use Rattle.link_base.specs.Borrowed.{HasValue, Borrows, form_of, elements_at, HasContent}
-use Rattle.link_base.proofs.Coherence.{row_told, row_passes_all, elements_formed}
+use Rattle.link_base.proofs.Coherence.{row_sound, row_passes_all, elements_formed}
 use Rattle.link_base.proofs.ContentBy.{one_accepted, single_shape}
 use Rattle.link_base.proofs.Entries.{class_of_row, form_of_row, label_of_row, class_of_none, form_of_none, label_of_none}
 use Rattle.link_base.proofs.Values.{bytes-take, bytes-drop}
@@ -59,8 +59,8 @@ use Rattle.nlroute_ffi.proofs.EntryTexts.{borrows_back, limits_front}
 
 -- ---- the row of an attribute type
 
--- what an entry spells, as the attribute b of a list of this table, if this is known of its type
-pub record Told (table : Table) (b : NlaBuffer) (list : List ℕ) (label : Option Label) (e : Entry) : Type 0 where
+-- what an entry encodes to, as the attribute b of a list of this table, if this is known of its type
+pub record HasTexts (table : Table) (b : NlaBuffer) (list : List ℕ) (label : Option Label) (e : Entry) : Type 0 where
   pub text : (s : List ℕ) (x : Content) → Shows (fields_for label) e list s → IsContent label s x → IsTextOf table b (content_text (label_or_plain label) x)
   pub has : (p : List ℕ) × (payload_of (fields_for label) e list ≡ Ok p)
 
@@ -72,7 +72,7 @@ unknown_back e f list p same kind flags at =
     right_form fields.Unknown e list same
     ∙ ap₂ (λ a b. cond (a && b) (passed None e list) (Err BadNumber)) low none ∙ passed_back None e list p at refl
 
--- a list spells nothing, whatever its type
+-- a list encodes to nothing, whatever its type
 list_kind : (own : Fields) (e : Entry) (k : ℕ) (octets : List ℕ) → is_list own ≡ true → payload_of own (with_kind e k) octets ≡ payload_of own e octets
 list_kind (fields.Numbers a) e k octets h = refl
 list_kind (fields.Addresses size) e k octets h = refl
@@ -124,8 +124,8 @@ module _ (table : Table) (formed : is_table table ≡ true) (b : NlaBuffer) (n :
     )
     unknown_text s y row same is = absurd is
 
-    unknown_told : row_at table k ≡ None → Told table b list None new
-    unknown_told row =
+    unknown_texts : row_at table k ≡ None → HasTexts table b list None new
+    unknown_texts row =
         let entry = entry_by table b x has n e None None (form_of_none table k row) (class_of_none table k row) in
         let full : Entry = with_kind (fields_by f None (value_at None p) n e) k in
         let payload : payload_of fields.Unknown new list ≡ Ok p =
@@ -149,8 +149,8 @@ module _ (table : Table) (formed : is_table table ≡ true) (b : NlaBuffer) (n :
             (ap (content_text own) is ∙ sym (no_words own x (ap (λ o. is_list (fields_in o)) (has.form ∙ named) ∙ list_fields r.form listed))),
       )
 
-      list_told : has_elements r.form ≡ true → Told table b list (Some own) new
-      list_told listed =
+      list_texts : has_elements r.form ≡ true → HasTexts table b list (Some own) new
+      list_texts listed =
           let looked = list_fields r.form listed in
           let payload = list_kind (row_fields r.form) (filled f x n e) k list looked ∙ list_back table b x has n e r.form list named looked in
           record { text = λ s y shows is. list_text listed y (subst (λ t. IsContentBy t own s y) listed is); has = ([], payload) }
@@ -161,7 +161,7 @@ module _ (table : Table) (formed : is_table table ≡ true) (b : NlaBuffer) (n :
         c = class_by r.form r.names
 
         class : class_at table k ≡ Some (One (class_by r.form r.names))
-        class = class_of_row table k r row ∙ ap Some (single_shape r.form r.names r.class (single_of r.form plain) (row_told table k r formed row))
+        class = class_of_row table k r row ∙ ap Some (single_shape r.form r.names r.class (single_of r.form plain) (row_sound table k r formed row))
 
         accepted : length_cause (extent (class_by r.form r.names)) (length p) ≡ None
         accepted = one_accepted table f p c class has.decodes
@@ -191,30 +191,30 @@ module _ (table : Table) (formed : is_table table ≡ true) (b : NlaBuffer) (n :
               subst (λ (l : Option Label). content_text own y ≡ (if has_numbers y then [] else shown_value l y)) (sym (label_of_row table k r row)) (ap (λ t. cond t [] (content_text own y)) (sym none)),
             )
 
-        value_told : Told table b list (Some own) new
-        value_told = record { text = λ s y shows is. value_text s y shows (subst (λ t. IsContentBy t own s y) plain is); has = (written (meant c p), payload) }
+        value_texts : HasTexts table b list (Some own) new
+        value_texts = record { text = λ s y shows is. value_text s y shows (subst (λ t. IsContentBy t own s y) plain is); has = (written (meant c p), payload) }
 
-      row_told_by : Told table b list (Some own) new
-      row_told_by =
+      row_texts : HasTexts table b list (Some own) new
+      row_texts =
           elim (cases_Bool (has_elements r.form)) [
-            | inl listed ↦ list_told listed
-            | inr plain ↦ value_told plain
+            | inl listed ↦ list_texts listed
+            | inr plain ↦ value_texts plain
           ]
 
-    by_row : (o : Option (Row Shape)) → row_at table k ≡ o → Told table b list (label_at table k) new
-    by_row None row = subst (λ (l : Option Label). Told table b list l new) (sym (label_of_none table k row)) (unknown_told row)
-    by_row (Some r) row = subst (λ (l : Option Label). Told table b list l new) (sym (label_of_row table k r row)) (row_told_by r row)
+    by_row : (o : Option (Row Shape)) → row_at table k ≡ o → HasTexts table b list (label_at table k) new
+    by_row None row = subst (λ (l : Option Label). HasTexts table b list l new) (sym (label_of_none table k row)) (unknown_texts row)
+    by_row (Some r) row = subst (λ (l : Option Label). HasTexts table b list l new) (sym (label_of_row table k r row)) (row_texts r row)
 
 -- ---- entries
 
 -- an entry whose type has this label
-pub record IsTold (family : Family) (table : Table) (b : NlaBuffer) (list : List ℕ) (e : Entry) : Type 0 where
+pub record HasItsTexts (family : Family) (table : Table) (b : NlaBuffer) (list : List ℕ) (e : Entry) : Type 0 where
   pub text : (words : List ℕ) → IsEntryText family e list words → IsTextOf table b words
   pub has : HasText family list e
 
-told_by : (family : Family) (table : Table) (b : NlaBuffer) (list : List ℕ) (e : Entry) (k : ℕ) (label : Option Label) → own_label family e ≡ Ok label → own_kind e ≡ k → Told table b list label (with_kind e k) → IsTold family table b list e
-told_by family table b list e k label is kind told =
-    let h = subst (λ j. Told table b list label (with_kind e j)) (sym kind) told in
+texts_by : (family : Family) (table : Table) (b : NlaBuffer) (list : List ℕ) (e : Entry) (k : ℕ) (label : Option Label) → own_label family e ≡ Ok label → own_kind e ≡ k → HasTexts table b list label (with_kind e k) → HasItsTexts family table b list e
+texts_by family table b list e k label is kind texts =
+    let h = subst (λ j. HasTexts table b list label (with_kind e j)) (sym kind) texts in
     record {
       text = λ words said.
           let (s, shows, (x, borrowed, same)) = subst (λ o. IsText o e list words) is said in
@@ -231,15 +231,15 @@ head_label family e k top kind =
 pub head_kind : (e : Entry) (k : ℕ) → e.depth ≡ 0 → e.kind ≡ k → own_kind e ≡ k
 head_kind e k top kind = ap (λ i. cond (i == 0) e.kind e.inner) top ∙ kind
 
-attribute_told : (family : Family) (list : List ℕ) (x : Item) (content : Content) (n : ℕ) → IsBytes list → IsAt list (x.0 + 4) x.1 → HasContent (table_of family) x.1 content → IsTold family (table_of family) x.1 list (head_entry x content n)
-attribute_told family list x content n bytes at has =
+attribute_texts : (family : Family) (list : List ℕ) (x : Item) (content : Content) (n : ℕ) → IsBytes list → IsAt list (x.0 + 4) x.1 → HasContent (table_of family) x.1 content → HasItsTexts family (table_of family) x.1 list (head_entry x content n)
+attribute_texts family list x content n bytes at has =
     let table = table_of family in
     let k = kind_of (kind_field_of x.1) in
     let e0 : Entry = blank k 0 0 (x.0 + 4) (length (payload_of_frame x.1)) in
     let stands : StandsAt e0 list (payload_of_frame x.1) = record { size = refl; within = at.0; short = x.1.short; is = at.1 } in
     let new = head_entry x content n in
     let keeps : Keeps e0 new = keeps_filled (kind_field_of x.1) content n e0 in
-    told_by family table x.1 list new k (label_at table k) (head_label family new k keeps.depth keeps.kind) (head_kind new k keeps.depth keeps.kind)
+    texts_by family table x.1 list new k (label_at table k) (head_label family new k keeps.depth keeps.kind) (head_kind new k keeps.depth keeps.kind)
     (by_row table (families_formed family) x.1 n e0 list stands bytes content has (row_at table k) refl)
 
 -- the label of an element of a list of this form
@@ -272,9 +272,9 @@ nested_label family flagged e k i below kind inner named =
 pub element_kind : (e : Entry) (i : ℕ) → e.depth ≡ 1 → e.inner ≡ i → own_kind e ≡ i
 element_kind e i below inner = ap (λ d. cond (d == 0) e.kind e.inner) below ∙ inner
 
-pub element_told : (family : Family) (list : List ℕ) (k offset : ℕ) (flagged : Bool) (b : NlaBuffer) (e : Entry) → IsBytes list → form_at (table_of family) k ≡ Some (forms.List flagged) → IsAt list offset b
-    → IsElement (elements_at (table_of family) k) k offset b e → IsTold family (elements_at (table_of family) k) b list e
-element_told family list k offset flagged b e bytes form at (content, has, is) =
+pub element_texts : (family : Family) (list : List ℕ) (k offset : ℕ) (flagged : Bool) (b : NlaBuffer) (e : Entry) → IsBytes list → form_at (table_of family) k ≡ Some (forms.List flagged) → IsAt list offset b
+    → IsElement (elements_at (table_of family) k) k offset b e → HasItsTexts family (elements_at (table_of family) k) b list e
+element_texts family list k offset flagged b e bytes form at (content, has, is) =
     let f = kind_field_of b in
     let i = kind_of f in
     let table = elements_at (table_of family) k in
@@ -282,8 +282,8 @@ element_told family list k offset flagged b e bytes form at (content, has, is) =
     let stands : StandsAt e0 list (payload_of_frame b) = record { size = refl; within = at.0; short = b.short; is = at.1 } in
     let new = filled f content 0 e0 in
     let keeps : Keeps e0 new = keeps_filled f content 0 e0 in
-    subst (IsTold family table b list) (sym is)
-    (told_by family table b list new i (label_at table i) (nested_label family flagged new k i keeps.depth keeps.kind keeps.inner form) (element_kind new i keeps.depth keeps.inner)
+    subst (HasItsTexts family table b list) (sym is)
+    (texts_by family table b list new i (label_at table i) (nested_label family flagged new k i keeps.depth keeps.kind keeps.inner form) (element_kind new i keeps.depth keeps.inner)
     (by_row table (elements_formed (table_of family) k (families_formed family)) b 0 e0 list stands bytes content has (row_at table i) refl))
 
 -- ---- a list
@@ -309,14 +309,14 @@ walk_at list (x ∷ items) s t (at, (u, split, walks)) few is =
     )
 
 -- what holds of each attribute with its entries
-module _ (family : Family) (list : List ℕ) (Q : Item → List Entry → Type 0) (told : (x : Item) (e : Entry) (es : List Entry) → IsTold family (table_of family) x.1 list e → Q x (e ∷ es)) (bytes : IsBytes list) where
+module _ (family : Family) (list : List ℕ) (Q : Item → List Entry → Type 0) (texts : (x : Item) (e : Entry) (es : List Entry) → HasItsTexts family (table_of family) x.1 list e → Q x (e ∷ es)) (bytes : IsBytes list) where
   heads : (items : List Item) (groups : List (List Entry)) → AllByRecursion (λ x. IsAt list (x.0 + 4) x.1) items → AllZip (IsGroup (table_of family)) items groups → AllZip Q items groups
   heads [] [] at h = tt
   heads [] (g ∷ groups) at h = absurd h
   heads (x ∷ items) [] at h = absurd h
   heads (x ∷ items) (g ∷ groups) at h =
       let (content, has, (elements, are, is)) = h.0 in (
-        subst (Q x) (sym is) (told x (head_entry x content (length elements)) elements (attribute_told family list x content (length elements) bytes at.0 has)),
+        subst (Q x) (sym is) (texts x (head_entry x content (length elements)) elements (attribute_texts family list x content (length elements) bytes at.0 has)),
         heads items groups at.1 h.1,
       )
 
@@ -329,10 +329,10 @@ module _ (family : Family) (list : List ℕ) (Q : Item → List Entry → Type 0
 
 -- an address has 4 or 16 bytes
 ip_shape : (form : Form) (names : List (ℕ × List ℕ)) (shape : Shape) (m : ℕ) → form ≡ forms.Addresses m → IsShapeOf form names shape → is_shape shape ≡ true → ((m == 4) || (m == 16)) ≡ true
-ip_shape form names (One c) m is told ok = let no : is_single (forms.Addresses m) ≡ true = subst (λ g. is_single g ≡ true) is told.0 in absurd cc
-ip_shape (forms.Addresses n) names (Addresses size) m is told ok = let same : n ≡ m = cc in subst (λ j. ((j == 4) || (j == 16)) ≡ true) (sym told ∙ same) ok
-ip_shape (forms.List flagged) names (Nested wanted rows) m is told ok = absurd cc
-ip_shape form names shape m is told ok = absurd told
+ip_shape form names (One c) m is texts ok = let no : is_single (forms.Addresses m) ≡ true = subst (λ g. is_single g ≡ true) is texts.0 in absurd cc
+ip_shape (forms.Addresses n) names (Addresses size) m is texts ok = let same : n ≡ m = cc in subst (λ j. ((j == 4) || (j == 16)) ≡ true) (sym texts ∙ same) ok
+ip_shape (forms.List flagged) names (Nested wanted rows) m is texts ok = absurd cc
+ip_shape form names shape m is texts ok = absurd texts
 
 -- the fields of such an address
 abbrev IpFields : ℕ → Type 0
@@ -351,7 +351,7 @@ ip_fields table k m formed named = by_row_of (row_at table k) refl where
   by_row_of None at = let none : None ≡ Some (forms.Addresses m) = sym (form_of_none table k at) ∙ named in absurd cc
   by_row_of (Some r) at =
       let same : r.form ≡ forms.Addresses m = cc (form_of_row table k r at) in
-      by_test (ip_shape r.form r.names r.class m same (row_told table k r formed at) (row_passes_all table k r formed at).shape)
+      by_test (ip_shape r.form r.names r.class m same (row_sound table k r formed at) (row_passes_all table k r formed at).shape)
 
 module _ (family : Family) (list : List ℕ) (k i : ℕ) where
   abbrev inner_label : Option Label

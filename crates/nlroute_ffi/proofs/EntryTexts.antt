@@ -1,4 +1,4 @@
--- What is borrowed from the payload that an entry spells is borrowed from the payload that the entry was read from.
+-- What is borrowed from the payload that an entry encodes to is borrowed from the payload that the entry was read from.
 use Rattle.std.proofs.Common.{◌≡◌, ℕ, Bool, true, false, List, length, take, drop, Some, None, Ok, refl, sym, ap, subst, ◌∙◌, arith, take-take}
 use Rattle.std.proofs.lemmas.List.{drop-take}
 use Rattle.link_base.specs.declared.views.content.Content.{Content}
@@ -57,7 +57,7 @@ same_limits p s (contents.Limits name numbers) is h = (
 )
 same_limits p s x is h = absurd h
 
--- ---- an entry that spells what a rewriting writes for its payload
+-- ---- an entry that encodes to what a rewriting writes for its payload
 
 module _ (e : Entry) (list p s : List ℕ) (bytes : IsBytes p) (x : Content) where
   value_back : (own : Fields) (c : Class) → is_limits own ≡ false → is_limited c ≡ false → length_cause (extent c) (length p) ≡ None → payload_of own e list ≡ Ok (written (meant c p)) → Shows own e list s

@@ -56,9 +56,9 @@ some_there : (fields : List FieldRow) (i : ℕ) (f : FieldRow) (q : List ℕ) �
 some_there [] i f q at h = absurd cc
 some_there (x ∷ fields) i f q at h = h
 
-fields_told : (fields : List FieldRow) (names : List (ℕ × List ℕ)) (q : List ℕ) → has_fields fields 0 q ≡ true → fields_text fields 0 names q ≡ joined (codes " ") (map (field_text 0 names q) fields)
+fields_joined : (fields : List FieldRow) (names : List (ℕ × List ℕ)) (q : List ℕ) → has_fields fields 0 q ≡ true → fields_text fields 0 names q ≡ joined (codes " ") (map (field_text 0 names q) fields)
 unfolding fields_text
-fields_told fields names q h = cond-true _ _ _ h
+fields_joined fields names q h = cond-true _ _ _ h
 
 by_fields : (layout : Layout) (fields : List FieldRow) (names : List (ℕ × List ℕ)) (q : List ℕ) → is_named (forms.Struct layout) ≡ true → struct_text layout fields names q ≡ fields_text fields 0 names q
 by_fields layouts.BridgeId fields names q h = absurd cc
@@ -80,26 +80,26 @@ named_in layout label i f s content named fits at size says form =
     let enough = size_reached (layout_extent layout) (length s) size in
     let there = all_there label.fields n (take n s) (omega (arith, length-take n s, enough)) fits in
     by_content layout label s content says form ∙ by_fields layout label.fields label.names (take n s) named
-    ∙ fields_told label.fields label.names (take n s) (some_there label.fields i f (take n s) at there)
+    ∙ fields_joined label.fields label.names (take n s) (some_there label.fields i f (take n s) at there)
     ∙ ap (joined (codes " ")) (same_fields label.names s n label.fields fits)
 
 -- ---- the text of an entry
 
 module _ (e : Entry) (octets words : List ℕ) (held : length e.octets ≡ 16) (label : Label) (i : ℕ) (f : FieldRow) (at : slice_get label.fields i ≡ Some f) where
   by_form : (form : Form) → label.form ≡ form → is_named form ≡ true → fields_fit form label.fields ≡ true → IsText (Ok (Some label)) e octets words → NameFields label (payload_by (Ok (Some label)) e octets) words
-  by_form (forms.Struct layout) of named fits (s, shows, (content, is, told)) =
+  by_form (forms.Struct layout) of named fits (s, shows, (content, is, stated)) =
       let own : Entry = record e { kind = own_kind e } in
       let size = subst (λ g. has_elements g ≡ false → length_cause (extent (class_by g [])) (length s) ≡ None) of (shown_size own octets s held (Some label) shows) refl in
       let (p, payload, same) = shows in
       let again : s ≡ p = shown_again (struct_fields layout) own octets p s (struct_no_limits layout) (subst (λ g. payload_of (row_fields g) own octets ≡ Ok p) of payload) (subst (λ g. Shows (row_fields g) own octets s) of shows) in
       let single : IsContentBy false label s content = subst (λ b. IsContentBy b label s content) (ap has_elements of) is in
       let (says, form) = subst (λ g. Borrows (Some (One (class_by g label.names))) s content × (form_of content ≡ Some g)) of single in
-      let text = told ∙ named_in layout label i f s content named fits at size says form in
+      let text = stated ∙ named_in layout label i f s content named fits at size says form in
       subst (λ r. NameFields label r words) (sym payload) (text ∙ ap (λ t. joined (codes " ") (map (field_text 0 label.names t) label.fields)) again)
   by_form form of named fits text = absurd cc
 
 pub fields_named : (family : Family) (e : Entry) (octets words : List ℕ) (label : Label) (i : ℕ) (f : FieldRow) → length e.octets ≡ 16 → own_label family e ≡ Ok (Some label) → is_named label.form ≡ true → slice_get label.fields i ≡ Some f
     → IsEntryText family e octets words → NameFields label (entry_payload family e octets) words
 fields_named family e octets words label i f held is named at text =
-    let own = by_form e octets words held label i f at label.form refl named (own_room family e (Some label) is) (subst (λ told. IsText told e octets words) is text) in
-    subst (λ told. NameFields label (payload_by told e octets) words) (sym is) own
+    let own = by_form e octets words held label i f at label.form refl named (own_room family e (Some label) is) (subst (λ stated. IsText stated e octets words) is text) in
+    subst (λ stated. NameFields label (payload_by stated e octets) words) (sym is) own

@@ -1,4 +1,4 @@
--- The struct that an entry spells has each field of its attribute type.
+-- The struct that an entry encodes to has each field of its attribute type.
 use Rattle.std.proofs.Common.{◌≡◌, ℕ, zero, suc, ◌+◌, ◌-◌, ◌<◌, ◌≤◌, ◌==◌, ◌&&◌, Bool, true, false, List, [], ◌∷◌, length, slice_get, slice_index_or, Option, Some, None, option_map, Result, Ok, Err, refl, sym, ap, subst, ◌∙◌, arith}
 use Rattle.std.specs.Prelude.{nat_le, nat_lt}
 use Rattle.std.specs.List.{list_all}
@@ -56,7 +56,7 @@ below_fits list form is h = subst (λ fields. fields_fit form fields ≡ true) (
 types_fit : (family : Family) → types_pass label_fits (table_of family) ≡ true
 types_fit family = each_family (λ family. types_pass label_fits (table_of family)) refl family
 
-pub own_room : (family : Family) (e : Entry) (told : Option Label) → own_label family e ≡ Ok told → have_room told ≡ true
+pub own_room : (family : Family) (e : Entry) (its_label : Option Label) → own_label family e ≡ Ok its_label → have_room its_label ≡ true
 own_room family e None is = refl
 own_room family e (Some label) is = own_label_passes label_fits types_fit below_fits family e label is
 
@@ -75,7 +75,7 @@ one_of [] i f h at = absurd cc
 one_of (x ∷ fields) zero f h at = let same : x ≡ f = cc in subst (λ y. is_formed y ≡ true) same (and_parts (is_formed x) (list_all is_formed fields) h).0
 one_of (x ∷ fields) (suc i) f h at = one_of fields i f (and_parts (is_formed x) (list_all is_formed fields) h).1 at
 
-pub field_formed : (family : Family) (e : Entry) (told : Option Label) (i : ℕ) (f : FieldRow) → own_label family e ≡ Ok told → slice_get (shown_fields told) i ≡ Some f → (field_form f.form ≡ form_in (row_fields f.form)) × (length f.name < 32)
+pub field_formed : (family : Family) (e : Entry) (its_label : Option Label) (i : ℕ) (f : FieldRow) → own_label family e ≡ Ok its_label → slice_get (shown_fields its_label) i ≡ Some f → (field_form f.form ≡ form_in (row_fields f.form)) × (length f.name < 32)
 field_formed family e None i f is at = absurd cc
 field_formed family e (Some label) i f is at =
     let test = one_of label.fields i f (own_label_passes are_formed types_formed (λ list form kind h. h) family e label is) at in
@@ -132,7 +132,7 @@ field_refused label e octets i new misfit refusal none is = subst (λ r. FieldOf
 
 -- by what is known of the type
 pub field_by_label : (family : Family) (e : Entry) (octets : List ℕ) (i : ℕ) (new : StructField) (label : Option Label) (result : Result ℕ Refusal) → own_label family e ≡ Ok label → FieldBy (Ok label) e i octets new result → FieldAnswers e i octets new family result
-field_by_label family e octets i new label result is h = subst (λ told. FieldBy told e i octets new result) (sym is) h
+field_by_label family e octets i new label result is h = subst (λ its_label. FieldBy its_label e i octets new result) (sym is) h
 
 pub field_of_none : (family : Family) (e : Entry) (octets : List ℕ) (i : ℕ) (new : StructField) (misfit : Misfit) (refusal : Refusal) → own_label family e ≡ Err misfit → refusal ≡ refusal_for misfit → FieldAnswers e i octets new family (Err refusal)
-field_of_none family e octets i new misfit refusal is same = subst (λ told. FieldBy told e i octets new (Err refusal)) (sym is) (ap Err same)
+field_of_none family e octets i new misfit refusal is same = subst (λ its_label. FieldBy its_label e i octets new (Err refusal)) (sym is) (ap Err same)

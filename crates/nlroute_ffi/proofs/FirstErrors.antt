@@ -9,7 +9,7 @@ use Rattle.link_base.specs.declared.wire.fault.Cause.TheVariants as causes
 use Rattle.link_base.specs.declared.wire.fault.DecodeFault.{DecodeFault}
 use Rattle.link_base.specs.declared.wire.fault.DecodeFault.TheVariants as faults
 use Rattle.link_base.specs.Number.{IsBytes, number}
-use Rattle.link_base.specs.Frame.{frame_fault, kind_of, spelled}
+use Rattle.link_base.specs.Frame.{frame_fault, kind_of, bytes_of_frames}
 use Rattle.link_base.specs.Class.{Class, Value, Extent, Exactly, AtLeast, Fixed, Multiple, AtMost, extent, length_cause, unless, meant}
 use Rattle.link_base.specs.Wire.{Reading, FaultsHere, FirstFault}
 use Rattle.link_base.specs.Table.{Shape, One, Nested, Addresses, Table, class_at, leaf_case, leaf_by, LeafGives, nested_fault, PayloadGives, single_case, GivesBy, Gives}
@@ -59,7 +59,7 @@ module _ {V : Type 0} (gives : Reading V) (P : DecodeFault → Type 0) (framed :
   here r fault bytes (inr (x, begins, given)) = valued x.kind_field x.payload fault (bytes-payload x begins.rest (subst IsBytes begins.string bytes)) given
 
   pub first_fits : (s : List ℕ) (at : ℕ) (fault : DecodeFault) → IsBytes s → FirstFault gives s at fault → P fault
-  first_fits s at fault bytes h = here h.rest fault (bytes-back (spelled h.front) h.rest (subst IsBytes h.string bytes)) h.here
+  first_fits s at fault bytes h = here h.rest fault (bytes-back (bytes_of_frames h.front) h.rest (subst IsBytes h.string bytes)) h.here
 
 -- ---- attributes
 
@@ -129,9 +129,9 @@ stored_found table s e n bytes (zero_is, (at, fault, first, numbers)) =
     (at, fault, first, found.0, found.1)
 
 -- so its text is never refused
-pub stored_told : (family other : Family) (s : List ℕ) (e : FirstError) (n : ℕ) (old new : List ℕ) (r : Result ℕ Refusal) → IsBytes s → ErrorAnswers s e (table_of family) (Ok n) → ErrorTextAnswers e old new other r → r ≡ Err BadForm → ⊥
-stored_told family other s e n old new r bytes h told is =
+pub stored_printed : (family other : Family) (s : List ℕ) (e : FirstError) (n : ℕ) (old new : List ℕ) (r : Result ℕ Refusal) → IsBytes s → ErrorAnswers s e (table_of family) (Ok n) → ErrorTextAnswers e old new other r → r ≡ Err BadForm → ⊥
+stored_printed family other s e n old new r bytes h is_printed is =
     let (at, fault, first, place, found) = stored_found (table_of family) s e n bytes h in
     let bad : ErrorTextBy (Some fault) e old new other (Err BadForm) =
-    subst (ErrorTextBy (Some fault) e old new other) is (subst (λ o. ErrorTextBy o e old new other r) found told) in
+    subst (ErrorTextBy (Some fault) e old new other) is (subst (λ o. ErrorTextBy o e old new other r) found is_printed) in
     absurd bad

@@ -25,9 +25,9 @@ packet_length_found n make h = ap (λ b. option_map make (cond b (Some n) None))
 error_by : ℕ → ℕ → ℕ → ℕ → ℕ → Option MessageError
 error_by at place cause first second = message_error_of (record { at = at; first = first; second = second; place = place; kind = 0; inner = 0; cause = cause })
 
-told_by : (x : FirstError) (at place kind inner cause first second : ℕ) → error_numbers x ≡ at ∷ place ∷ kind ∷ inner ∷ cause ∷ first ∷ second ∷ [] → message_error_of x ≡ error_by at place cause first second
+printed_by : (x : FirstError) (at place kind inner cause first second : ℕ) → error_numbers x ≡ at ∷ place ∷ kind ∷ inner ∷ cause ∷ first ∷ second ∷ [] → message_error_of x ≡ error_by at place cause first second
 unfolding error_by
-told_by x at place kind inner cause first second h =
+printed_by x at place kind inner cause first second h =
     let a : x.at ≡ at = cc in let b : x.place ≡ place = cc in let c : x.cause ≡ cause = cc in let d : x.first ≡ first = cc in let e : x.second ≡ second = cc in
     ap₂ (λ a b. error_by a b x.cause x.first x.second) a b ∙ ap₂ (λ a b. error_by at place a b x.second) c d ∙ ap (error_by at place cause first) e
 
@@ -41,10 +41,10 @@ Fits error = ⊥
 
 message_found : (x : FirstError) (e : MessageError) → Fits e → error_numbers x ≡ message_numbers e → message_error_of x ≡ Some e
 unfolding error_by
-message_found x (errors.ShortHeader at left) fits h = told_by x at 6 0 0 1 left 0 h
-message_found x (errors.SmallLength at n) fits h = told_by x at 6 0 0 2 n 0 h ∙ packet_length_found n (λ k. errors.SmallLength at k) fits
-message_found x (errors.Overrun at n left) fits h = told_by x at 6 0 0 3 n left h ∙ packet_length_found n (λ k. errors.Overrun at k left) fits
-message_found x (errors.ShortLink at n) fits h = told_by x at 7 0 0 5 32 n h
+message_found x (errors.ShortHeader at left) fits h = printed_by x at 6 0 0 1 left 0 h
+message_found x (errors.SmallLength at n) fits h = printed_by x at 6 0 0 2 n 0 h ∙ packet_length_found n (λ k. errors.SmallLength at k) fits
+message_found x (errors.Overrun at n left) fits h = printed_by x at 6 0 0 3 n left h ∙ packet_length_found n (λ k. errors.Overrun at k left) fits
+message_found x (errors.ShortLink at n) fits h = printed_by x at 7 0 0 5 32 n h
 message_found x (errors.OtherType at kind) fits h = absurd fits
 message_found x (errors.ShortError at n) fits h = absurd fits
 
@@ -81,16 +81,16 @@ read_fits at r e bytes (inl (some, fault)) = subst Occurs fault (header_fits at 
 read_fits at r e bytes (inr (m, is, none)) = link_fits m e none
 
 -- the struct has this error
-pub message_told : (at : ℕ) (r : List ℕ) (x : FirstError) (n : ℕ) → IsBytes r → MessageErrorAnswers at r x (Ok n)
+pub message_printed : (at : ℕ) (r : List ℕ) (x : FirstError) (n : ℕ) → IsBytes r → MessageErrorAnswers at r x (Ok n)
     → (e : MessageError) × ReadsMessage at r (Err e) × (message_error_of x ≡ Some e)
-message_told at r x n bytes (zero, (e, reads, same)) = (e, reads, message_found x e (read_fits at r e bytes reads) same)
+message_printed at r x n bytes (zero, (e, reads, same)) = (e, reads, message_found x e (read_fits at r e bytes reads) same)
 
 -- its text
-text_told : (o : Option DecodeFault) (x : FirstError) (e : MessageError) (family : Family) (old new : List ℕ) (r : Result ℕ Refusal) → message_error_of x ≡ Some e → ErrorTextBy o x old new family r → r ≡ Err BadForm → ⊥
-text_told (Some fault) x e family old new r found told is = let bad : ErrorTextBy (Some fault) x old new family (Err BadForm) = subst (ErrorTextBy (Some fault) x old new family) is told in absurd bad
-text_told None x e family old new r found told is = let none : message_error_of x ≡ None = subst (ErrorTextBy None x old new family) is told in absurd cc
+text_printed : (o : Option DecodeFault) (x : FirstError) (e : MessageError) (family : Family) (old new : List ℕ) (r : Result ℕ Refusal) → message_error_of x ≡ Some e → ErrorTextBy o x old new family r → r ≡ Err BadForm → ⊥
+text_printed (Some fault) x e family old new r found is_printed is = let bad : ErrorTextBy (Some fault) x old new family (Err BadForm) = subst (ErrorTextBy (Some fault) x old new family) is is_printed in absurd bad
+text_printed None x e family old new r found is_printed is = let none : message_error_of x ≡ None = subst (ErrorTextBy None x old new family) is is_printed in absurd cc
 
 pub message_text : (at : ℕ) (r : List ℕ) (x : FirstError) (n : ℕ) (family : Family) (old new : List ℕ) (result : Result ℕ Refusal) → IsBytes r → MessageErrorAnswers at r x (Ok n) → ErrorTextAnswers x old new family result
     → result ≡ Err BadForm → ⊥
-message_text at r x n family old new result bytes h told is =
-    let (e, reads, found) = message_told at r x n bytes h in text_told (fault_of x) x e family old new result found told is
+message_text at r x n family old new result bytes h is_printed is =
+    let (e, reads, found) = message_printed at r x n bytes h in text_printed (fault_of x) x e family old new result found is_printed is

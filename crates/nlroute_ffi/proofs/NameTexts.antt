@@ -104,9 +104,9 @@ unnamed_none [] = refl
 unnamed_none (x ∷ names) = let none : 0 - bit_and 0 x.0 ≡ 0 = omega arith in ap (unnamed names) none ∙ unnamed_none names
 
 -- what is written of a number, by its name
-abbrev Told : Option (List ℕ) → List (ℕ × List ℕ) → ℕ → Type 0
-Told (Some name) names n = (map (λ x. x.1) (set_names names n) ≡ name ∷ []) × (unnamed names n ≡ 0)
-Told None names n = (map (λ x. x.1) (set_names names n) ≡ []) × (unnamed names n ≡ n)
+abbrev IsNamed : Option (List ℕ) → List (ℕ × List ℕ) → ℕ → Type 0
+IsNamed (Some name) names n = (map (λ x. x.1) (set_names names n) ≡ name ∷ []) × (unnamed names n ≡ 0)
+IsNamed None names n = (map (λ x. x.1) (set_names names n) ≡ []) × (unnamed names n ≡ n)
 
 -- a name whose bit is not set
 set_passed : (x : ℕ × List ℕ) (names : List (ℕ × List ℕ)) (n : ℕ) → (bit_and n x.0 == 0) ≡ true → set_names (x ∷ names) n ≡ set_names names n
@@ -118,9 +118,9 @@ unnamed_passed x names n h =
     let same : n - bit_and n x.0 ≡ n = omega (arith, none) in
     ap (unnamed names) same
 
-told_passed : (o : Option (List ℕ)) (x : ℕ × List ℕ) (names : List (ℕ × List ℕ)) (n : ℕ) → (bit_and n x.0 == 0) ≡ true → Told o names n → Told o (x ∷ names) n
-told_passed (Some name) x names n h told = (ap (map (λ y. y.1)) (set_passed x names n h) ∙ told.0, unnamed_passed x names n h ∙ told.1)
-told_passed None x names n h told = (ap (map (λ y. y.1)) (set_passed x names n h) ∙ told.0, unnamed_passed x names n h ∙ told.1)
+named_passed : (o : Option (List ℕ)) (x : ℕ × List ℕ) (names : List (ℕ × List ℕ)) (n : ℕ) → (bit_and n x.0 == 0) ≡ true → IsNamed o names n → IsNamed o (x ∷ names) n
+named_passed (Some name) x names n h its_name = (ap (map (λ y. y.1)) (set_passed x names n h) ∙ its_name.0, unnamed_passed x names n h ∙ its_name.1)
+named_passed None x names n h its_name = (ap (map (λ y. y.1)) (set_passed x names n h) ∙ its_name.0, unnamed_passed x names n h ∙ its_name.1)
 
 clear_set : (names : List (ℕ × List ℕ)) (n : ℕ) → is_clear names n ≡ true → set_names names n ≡ []
 clear_set [] n h = refl
@@ -128,11 +128,11 @@ clear_set (x ∷ names) n h =
     let rest = and_parts (bit_and n x.0 == 0) (is_clear names n) (and_parts (not (x.0 == n)) ((bit_and n x.0 == 0) && is_clear names n) h).1 in
     set_passed x names n rest.0 ∙ clear_set names n rest.1
 
-single_told : (names : List (ℕ × List ℕ)) (n : ℕ) → n ≢ 0 → is_single names n ≡ true → Told (name_in names n) names n
-single_told [] n some h = (refl, refl)
-single_told (x ∷ names) n some h = by_test (x.0 == n) refl h (single_told names n some) where
+single_named : (names : List (ℕ × List ℕ)) (n : ℕ) → n ≢ 0 → is_single names n ≡ true → IsNamed (name_in names n) names n
+single_named [] n some h = (refl, refl)
+single_named (x ∷ names) n some h = by_test (x.0 == n) refl h (single_named names n some) where
   by_test : (b : Bool) → (x.0 == n) ≡ b → cond b ((bit_and n n == n) && is_clear names n) ((bit_and n x.0 == 0) && is_single names n) ≡ true
-      → (is_single names n ≡ true → Told (name_in names n) names n) → Told (cond b (Some x.1) (name_in names n)) (x ∷ names) n
+      → (is_single names n ≡ true → IsNamed (name_in names n) names n) → IsNamed (cond b (Some x.1) (name_in names n)) (x ∷ names) n
   by_test true e h more =
       let both = and_parts (bit_and n n == n) (is_clear names n) h in
       let all : bit_and n x.0 ≡ n = ap (bit_and n) (eqb-true x.0 n e) ∙ eqb-true (bit_and n n) n both.0 in
@@ -142,7 +142,7 @@ single_told (x ∷ names) n some h = by_test (x.0 == n) refl h (single_told name
             ∙ ap (λ t. x.1 ∷ map (λ y. y.1) t) (clear_set names n both.1),
         ap (unnamed names) none ∙ unnamed_none names,
       )
-  by_test false e h more = let both = and_parts (bit_and n x.0 == 0) (is_single names n) h in told_passed (name_in names n) x names n both.0 (more both.1)
+  by_test false e h more = let both = and_parts (bit_and n x.0 == 0) (is_single names n) h in named_passed (name_in names n) x names n both.0 (more both.1)
 
 -- one bit is not all bits of some bytes
 not_full : (bit width : ℕ) → 2 ^ bit ≢ 2 ^ (8 * width) - 1
@@ -159,22 +159,22 @@ not_full (suc b) (suc v) e =
     omega (arith, ap (λ k. 2 ^ k) same, high, pow_pos (8 * v), ap (λ k. 2 ^ k) next, twice, e)
 
 -- the names that are written, and the bits without a name after them
-words_told : (names : List (ℕ × List ℕ)) (width n m : ℕ) (told : List (List ℕ)) → n ≢ 0 → map (λ x. x.1) (set_names names n) ≡ told → unnamed names n ≡ m → ((n == 2 ^ (8 * width) - 1) && not (m == 0)) ≡ false
-    → flags_text names width n ≡ joined (codes "|") (told ++ last_word m)
+words_named : (names : List (ℕ × List ℕ)) (width n m : ℕ) (its_name : List (List ℕ)) → n ≢ 0 → map (λ x. x.1) (set_names names n) ≡ its_name → unnamed names n ≡ m → ((n == 2 ^ (8 * width) - 1) && not (m == 0)) ≡ false
+    → flags_text names width n ≡ joined (codes "|") (its_name ++ last_word m)
 unfolding flags_text
-words_told names width n m told some set left other =
+words_named names width n m its_name some set left other =
     let words = joined (codes "|") (flag_words names n) in
     ap (λ b. cond b (codes "0") (cond (is_all names width n) (codes "all") words)) (ne_eqb n 0 some)
     ∙ ap (λ b. cond b (codes "all") words) (ap (λ k. (n == 2 ^ (8 * width) - 1) && not (k == 0)) left ∙ other)
     ∙ ap₂ (λ t k. joined (codes "|") (t ++ last_word k)) set left
 
-bit_told : (o : Option (List ℕ)) (names : List (ℕ × List ℕ)) (width bit : ℕ) → Told o names (2 ^ bit) → IsByName o (hex_number (2 ^ bit)) (flags_text names width (2 ^ bit))
-bit_told (Some name) names width bit told =
-    words_told names width (2 ^ bit) 0 (name ∷ []) (λ z. omega (arith, pow_pos bit, z)) told.0 told.1 (and_false (2 ^ bit == 2 ^ (8 * width) - 1)) ∙ append-nil name
-bit_told None names width bit told =
+bit_named : (o : Option (List ℕ)) (names : List (ℕ × List ℕ)) (width bit : ℕ) → IsNamed o names (2 ^ bit) → IsByName o (hex_number (2 ^ bit)) (flags_text names width (2 ^ bit))
+bit_named (Some name) names width bit its_name =
+    words_named names width (2 ^ bit) 0 (name ∷ []) (λ z. omega (arith, pow_pos bit, z)) its_name.0 its_name.1 (and_false (2 ^ bit == 2 ^ (8 * width) - 1)) ∙ append-nil name
+bit_named None names width bit its_name =
     let n = 2 ^ bit in
     let some : n ≢ 0 = λ z. omega (arith, pow_pos bit, z) in
-    words_told names width n n [] some told.0 told.1 (ap (λ b. b && not (n == 0)) (ne_eqb n (2 ^ (8 * width) - 1) (not_full bit width)))
+    words_named names width n n [] some its_name.0 its_name.1 (ap (λ b. b && not (n == 0)) (ne_eqb n (2 ^ (8 * width) - 1) (not_full bit width)))
     ∙ ap (λ b. joined (codes "|") (cond b [] (hex_number n ∷ []))) (ne_eqb n 0 some) ∙ append-nil (hex_number n)
 
 -- ---- the names in the tables
@@ -204,9 +204,9 @@ bits_shown family e label bit width at low =
     let names = bit_names_by label.form label in
     let plain : is_plain label ≡ true = type_passes is_plain family (each_family (λ family. types_pass is_plain (table_of family)) refl family) e label at in
     let single = one_single 64 names plain bit low in
-    let told = single_told names (2 ^ bit) (λ z. omega (arith, pow_pos bit, z)) single in
+    let its_name = single_named names (2 ^ bit) (λ z. omega (arith, pow_pos bit, z)) single in
     subst (λ o. IsByName o (hex_number (2 ^ bit)) (flags_text names width (2 ^ bit))) (sym (ap (λ b. cond b (name_in names (2 ^ bit)) None) (lt-ltb bit 64 low)))
-    (bit_told (name_in names (2 ^ bit)) names width bit told)
+    (bit_named (name_in names (2 ^ bit)) names width bit its_name)
 
 -- ---- VLAN protocols
 
@@ -222,20 +222,20 @@ abbrev has_protocols : Form → List (ℕ × List ℕ) → Bool
 has_protocols forms.Protocol names = has_name names Ieee8021Q && has_name names Ieee8021Ad
 has_protocols form names = true
 
-abbrev is_told : Label → Bool
-is_told label = has_protocols label.form label.names
+abbrev names_protocols : Label → Bool
+names_protocols label = has_protocols label.form label.names
 
 one_named : (names : List (ℕ × List ℕ)) (p : VlanProtocol) → has_protocols forms.Protocol names ≡ true → has_name names p ≡ true
 one_named names Ieee8021Q h = (and_parts (has_name names Ieee8021Q) (has_name names Ieee8021Ad) h).0
 one_named names Ieee8021Ad h = (and_parts (has_name names Ieee8021Q) (has_name names Ieee8021Ad) h).1
 
-protocol_told : (o : Option (List ℕ)) (p : VlanProtocol) → is_text o (text_of vlan_protocols.labels (protocol_number p)) ≡ true → IsWithName o (hex_number (protocol_number p)) (protocol_text p)
-protocol_told None p h = absurd cc
-protocol_told (Some name) p h = ap (λ t. beside t (hex_number (protocol_number p))) (sym ((bytes_eq-Decides name (text_of vlan_protocols.labels (protocol_number p))).0 h))
+protocol_named : (o : Option (List ℕ)) (p : VlanProtocol) → is_text o (text_of vlan_protocols.labels (protocol_number p)) ≡ true → IsWithName o (hex_number (protocol_number p)) (protocol_text p)
+protocol_named None p h = absurd cc
+protocol_named (Some name) p h = ap (λ t. beside t (hex_number (protocol_number p))) (sym ((bytes_eq-Decides name (text_of vlan_protocols.labels (protocol_number p))).0 h))
 
 pub protocols_shown : (family : Family) (e : Entry) (label : Label) (p : VlanProtocol) → label_for family e ≡ Some label → label.form ≡ forms.Protocol
     → IsWithName (number_name (Some label) (protocol_number p)) (hex_number (protocol_number p)) (content_text label (contents.Protocol p))
 protocols_shown family e label p at form =
-    let told : is_told label ≡ true = type_passes is_told family (each_family (λ family. types_pass is_told (table_of family)) refl family) e label at in
+    let its_name : names_protocols label ≡ true = type_passes names_protocols family (each_family (λ family. types_pass names_protocols (table_of family)) refl family) e label at in
     subst (λ f. IsWithName (name_in (number_names_by f label) (protocol_number p)) (hex_number (protocol_number p)) (protocol_text p)) (sym form)
-    (protocol_told (name_in label.names (protocol_number p)) p (one_named label.names p (subst (λ f. has_protocols f label.names ≡ true) form told)))
+    (protocol_named (name_in label.names (protocol_number p)) p (one_named label.names p (subst (λ f. has_protocols f label.names ≡ true) form its_name)))

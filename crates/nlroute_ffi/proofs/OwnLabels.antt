@@ -31,31 +31,31 @@ module _ (test : Label → Bool) (all : (family : Family) → types_pass test (t
   inner_passes family k i None at = refl
   inner_passes family k i (Some label) at = label_passes test (elements_at (table_of family) k) i label (nested_pass test (table_of family) k (both family).1) at
 
-  element_passes : (form : Form) (list : Label) (own told : Option Label) → list.form ≡ form → test list ≡ true → passes own ≡ true → element_by form list own ≡ Ok told → passes told ≡ true
-  element_passes (forms.Numbers a) list own told of h room is =
-      let same : Some (with_form (number_form a) list) ≡ told = cc in
+  element_passes : (form : Form) (list : Label) (own its_label : Option Label) → list.form ≡ form → test list ≡ true → passes own ≡ true → element_by form list own ≡ Ok its_label → passes its_label ≡ true
+  element_passes (forms.Numbers a) list own its_label of h room is =
+      let same : Some (with_form (number_form a) list) ≡ its_label = cc in
       subst (λ o. passes o ≡ true) same (below list (number_form a) (ap has_elements of) h)
-  element_passes (forms.Addresses n) list own told of h room is =
-      let same : Some (with_form (address_form n) list) ≡ told = cc in
+  element_passes (forms.Addresses n) list own its_label of h room is =
+      let same : Some (with_form (address_form n) list) ≡ its_label = cc in
       subst (λ o. passes o ≡ true) same (below list (address_form n) (ap has_elements of) h)
-  element_passes (forms.List flagged) list own told of h room is = let same : own ≡ told = cc in subst (λ o. passes o ≡ true) same room
-  element_passes form list own told of h room is = absurd cc
+  element_passes (forms.List flagged) list own its_label of h room is = let same : own ≡ its_label = cc in subst (λ o. passes o ≡ true) same room
+  element_passes form list own its_label of h room is = absurd cc
 
-  in_list : (list own told : Option Label) → passes list ≡ true → passes own ≡ true → element_label list own ≡ Ok told → passes told ≡ true
-  in_list None own told h room is = absurd cc
-  in_list (Some list) own told h room is = element_passes list.form list own told refl h room is
+  in_list : (list own its_label : Option Label) → passes list ≡ true → passes own ≡ true → element_label list own ≡ Ok its_label → passes its_label ≡ true
+  in_list None own its_label h room is = absurd cc
+  in_list (Some list) own its_label h room is = element_passes list.form list own its_label refl h room is
 
-  own_passes : (family : Family) (e : Entry) (told : Option Label) → own_label family e ≡ Ok told → passes told ≡ true
-  own_passes family e told is = by_depth (e.depth == 0) (e.depth == 1) is where
+  own_passes : (family : Family) (e : Entry) (its_label : Option Label) → own_label family e ≡ Ok its_label → passes its_label ≡ true
+  own_passes family e its_label is = by_depth (e.depth == 0) (e.depth == 1) is where
     list : Option Label
     list = label_at (table_of family) e.kind
 
     own : Option Label
     own = label_at (elements_at (table_of family) e.kind) e.inner
 
-    by_depth : (none one : Bool) → cond none (Ok list) (cond one (element_label list own) (Err BadElement)) ≡ Ok told → passes told ≡ true
-    by_depth true one is = let same : list ≡ told = cc in subst (λ o. passes o ≡ true) same (attribute_passes family e.kind list refl)
-    by_depth false true is = in_list list own told (attribute_passes family e.kind list refl) (inner_passes family e.kind e.inner own refl) is
+    by_depth : (none one : Bool) → cond none (Ok list) (cond one (element_label list own) (Err BadElement)) ≡ Ok its_label → passes its_label ≡ true
+    by_depth true one is = let same : list ≡ its_label = cc in subst (λ o. passes o ≡ true) same (attribute_passes family e.kind list refl)
+    by_depth false true is = in_list list own its_label (attribute_passes family e.kind list refl) (inner_passes family e.kind e.inner own refl) is
     by_depth false false is = absurd cc
 
   pub own_label_passes : (family : Family) (e : Entry) (label : Label) → own_label family e ≡ Ok (Some label) → test label ≡ true

@@ -1,4 +1,4 @@
--- What is shown of the payload that an entry spells.
+-- What is shown of the payload that an entry encodes to.
 use Rattle.std.proofs.Common.{◌≡◌, ℕ, ◌+◌, ◌%◌, ◌≤◌, ◌==◌, ◌&&◌, Bool, true, false, cond, List, [], ◌++◌, length, take, drop, replicate, reverse, Option, Some, None, Result, Ok, Err, refl, sym, ap, subst, ◌∙◌, arith, append_assoc, length-append, length-take}
 use Rattle.std.specs.Prelude.{nat_lt, nat_le}
 use Rattle.std.proofs.lemmas.List.{length-replicate, take_at, drop_at}
@@ -138,7 +138,7 @@ pub struct_no_limits : (layout : Layout) → is_limits (struct_fields layout) �
 struct_no_limits layouts.BridgeId = refl
 struct_no_limits layout = refl
 
--- all other payloads are shown as they are spelled
+-- all other payloads are shown as they are encoded
 shown_same : (own : Fields) (e : Entry) (octets p : List ℕ) → is_limits own ≡ false → payload_of own e octets ≡ Ok p → shown_bytes own e octets p ≡ p
 shown_same (fields.Passed form size) e octets p plain h = sym (passed_held size e octets p (content_ok (fields.Passed form size) e octets p h)).is
 shown_same fields.Peer e octets p plain h = sym (headed_held e octets p (content_ok fields.Peer e octets p h)).all.is

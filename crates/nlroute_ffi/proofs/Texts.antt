@@ -26,9 +26,9 @@ module _ (label : Option Label) (e : Entry) (octets : List ℕ) (own : Fields) (
   shown_by s h = subst (λ o. Shows o (record e { kind = own_kind e }) octets s) fields (subst (λ j. Shows own (record e { kind = j }) octets s) kind h)
 
   -- the text of an entry
-  pub text_answered : (old new s : List ℕ) (content : Content) (told : Label) (n : ℕ) → told ≡ label_or_plain label → Shows own (record e { kind = k }) octets s → IsContent label s content → StoresText (content_text told content) old new n
+  pub text_answered : (old new s : List ℕ) (content : Content) (its_label : Label) (n : ℕ) → its_label ≡ label_or_plain label → Shows own (record e { kind = k }) octets s → IsContent label s content → StoresText (content_text its_label content) old new n
       → LabelAnswers (Ok label) e octets old new (Ok n)
-  text_answered old new s content told n same shows is stored = (content_text told content, (s, shown_by s shows, (content, is, ap (λ l. content_text l content) same)), stored)
+  text_answered old new s content its_label n same shows is stored = (content_text its_label content, (s, shown_by s shows, (content, is, ap (λ l. content_text l content) same)), stored)
 
   -- or it has none
   pub refused_by : (misfit : Misfit) → payload_of own (record e { kind = k }) octets ≡ Err misfit → payload_by (Ok label) e octets ≡ Err misfit

@@ -17,9 +17,9 @@ use Rattle.link_entries.specs.declared.misfit.Misfit.{Misfit}
 use Rattle.link_entries.specs.declared.misfit.Misfit.TheVariants.{BadElement}
 use Rattle.link_entries.specs.Fields.{number_form, array_number, ip_address, row_fields, fields_in, fields_at}
 use Rattle.link_entries.specs.Payload.{payload_of, field_of}
-use Rattle.link_entries.specs.Spelled.{alone, before, fitted, element_content, element_of, elements_of, attribute_of, entry_of, entries_of, begins_well, spelled_by}
+use Rattle.link_entries.specs.Encoded.{alone, before, fitted, element_content, element_of, elements_of, attribute_of, entry_of, entries_of, begins_well, encoded_by}
 use Rattle.link_entries.proofs.RowForms.{is_list, is_value, with_kind, value_kind, value_no_list, NoRow, OneValue, Array, AddressList, NestedList, row_says}
-use Rattle.link_entries.proofs.WrittenLists.{spells, if_held, both_true, no_content, before_ok, alone_ok, framed_ok, fitted_ok}
+use Rattle.link_entries.proofs.WrittenLists.{encodes, if_held, both_true, no_content, before_ok, alone_ok, framed_ok, fitted_ok}
 use Rattle.nlroute_ffi.specs.declared.refusal.Refusal.{Refusal}
 use Rattle.nlroute_ffi.specs.ValueText.{with_form, address_form, own_label, fields_for, payload_by, entry_payload, TextAnswers}
 use Rattle.nlroute_ffi.specs.Shown.{HasText}
@@ -53,8 +53,8 @@ module _ (family : Family) (octets : List ℕ) where
       ∙ ap₂ (λ own k. payload_of own (with_kind e k) octets) (label_fields table e.kind) (head_kind e e.kind top refl)
 
   -- that of an element
-  element_told : (e : Entry) (p : List ℕ) (label : Option Label) → e.depth ≡ 1 → own_label family e ≡ Ok label → payload_of (fields_for label) (with_kind e e.inner) octets ≡ Ok p → HasText family octets e
-  element_told e p label below is h =
+  element_texts : (e : Entry) (p : List ℕ) (label : Option Label) → e.depth ≡ 1 → own_label family e ≡ Ok label → payload_of (fields_for label) (with_kind e e.inner) octets ≡ Ok p → HasText family octets e
+  element_texts e p label below is h =
       (p, ap (λ o. payload_by o e octets) is ∙ ap (λ k. payload_of (fields_for label) (with_kind e k) octets) (element_kind e e.inner below refl) ∙ h)
 
   element_held : (e : Entry) (i : ℕ) (s : List ℕ) → e.depth ≡ 1 → element_content (elements_at (table_of family) e.kind) (fields_at (table_of family) e.kind) i e octets ≡ Ok s → HasText family octets e
@@ -68,17 +68,17 @@ module _ (family : Family) (octets : List ℕ) where
         | Array a named class low ↦
             let list = list_label family k (forms.Numbers a) named in
             let looked : fields_at table k ≡ fields.Numbers a = ap fields_in named in
-            element_told e s (Some (with_form (number_form a) list.label)) below (below_label family e below ∙ list.is own)
+            element_texts e s (Some (with_form (number_form a) list.label)) below (below_label family e below ∙ list.is own)
             (value_kind (array_number a) e e.inner octets (array_value a) ∙ (ap (λ row. element_content inner row i e octets) (sym looked) ∙ h))
         | AddressList n named class few low ↦
             let list = list_label family k (forms.Addresses n) named in
             let (p, payload, text) = framed_ok i (payload_of (ip_address n) e octets) s (ap (λ row. element_content inner row i e octets) (sym (ap fields_in named)) ∙ h) in
-            element_told e p (Some (with_form (address_form n) list.label)) below (below_label family e below ∙ list.is own)
+            element_texts e p (Some (with_form (address_form n) list.label)) below (below_label family e below ∙ list.is own)
             (ap (λ row. payload_of row (with_kind e e.inner) octets) (ip_fields table k n (families_formed family) named).0 ∙ payload)
         | NestedList flagged rows named class low ↦
             let row = fields_at inner e.inner in
             let (p, payload, text) = framed_ok (field_of row e.inner e) (payload_of row (with_kind e e.inner) octets) s (ap (λ list. element_content inner list i e octets) (sym (ap fields_in named)) ∙ h) in
-            element_told e p own below (nested_label family flagged e k e.inner below refl refl named) (ap (λ row. payload_of row (with_kind e e.inner) octets) (label_fields inner e.inner) ∙ payload)
+            element_texts e p own below (nested_label family flagged e k e.inner below refl refl named) (ap (λ row. payload_of row (with_kind e e.inner) octets) (label_fields inner e.inner) ∙ payload)
       ]
 
   -- an element, and the entries after it
@@ -114,16 +114,16 @@ module _ (family : Family) (octets : List ℕ) where
         | inr deep ↦ let (this, next) = next_held e es deep begins in (this, all_held es both.second both.is_second next)
       ]
 
-  pub written_held : (written : List ℕ) (es : List Entry) → spelled_by (table_of family) octets es ≡ Ok written → AllByRecursion (HasText family octets) es
+  pub written_held : (written : List ℕ) (es : List Entry) → encoded_by (table_of family) octets es ≡ Ok written → AllByRecursion (HasText family octets) es
   written_held written es h =
       elim (cases_Bool (begins_well es)) [
         | inl well ↦ all_held es written (sym (ap (λ b. cond b (entries_of table octets es) (Err (0, BadElement))) well) ∙ h) (Attribute well)
-        | inr ill ↦ let wrong : Err (0, BadElement) ≡ spells written = sym (ap (λ b. cond b (entries_of table octets es) (Err (0, BadElement))) ill) ∙ h in absurd cc
+        | inr ill ↦ let wrong : Err (0, BadElement) ≡ encodes written = sym (ap (λ b. cond b (entries_of table octets es) (Err (0, BadElement))) ill) ∙ h in absurd cc
       ]
 
   -- an attribute that has no text
   pub refused_held : (old new : List ℕ) (e : Entry) (es : List Entry) (refusal : Refusal) → e.depth ≡ 0 → TextAnswers e octets old new family (Err refusal)
-      → (misfit : Misfit) × (spelled_by (table_of family) octets (e ∷ es) ≡ Err (0, misfit)) × (refusal ≡ refusal_for misfit)
+      → (misfit : Misfit) × (encoded_by (table_of family) octets (e ∷ es) ≡ Err (0, misfit)) × (refusal ≡ refusal_for misfit)
   refused_held old new e es refusal top (misfit, none, is) =
       let test : (e.depth == 0) ≡ true = eq-eqb e.depth 0 top in
       let own = fields_at table e.kind in

@@ -30,6 +30,6 @@ Requested (Ok s) count old new before after (Err NoRoom) = (length old < length 
 Requested (Err e) count old new before after (Err refusal) = (refusal ≡ refusal_of_request e) × (new ≡ old) × (after ≡ index_of count e)
 Requested request count old new before after result = ⊥
 
--- of the request that this head and these entries spell
+-- of the request that this head and these entries encode to
 abbrev pub RequestAnswers : Head → List Entry → List ℕ → List ℕ → List ℕ → ℕ → ℕ → Result ℕ Refusal → Type 0
 RequestAnswers head es octets old new before after result = Requested (request_of head octets es) (length es) old new before after result

@@ -24,7 +24,7 @@ has_numbers content = false
 abbrev pub IsTextOf : Table → NlaBuffer → List ℕ → Type 0
 IsTextOf table b words = (content : Content) × HasContent table b content × (words ≡ (if has_numbers content then [] else value_text (label_for table b) content))
 
--- an entry spells a payload, so it has a text
+-- an entry encodes to a payload, so it has a text
 abbrev pub HasText : Family → List ℕ → Entry → Type 0
 HasText family list e = (p : List ℕ) × (entry_payload family e list ≡ Ok p)
 
@@ -38,9 +38,9 @@ HeadHasText family list x [] = ⊥
 HeadHasText family list x (e ∷ es) = (words : List ℕ) → IsEntryText family e list words → IsTextOf (table_of family) x.1 words
 
 -- the first of these entries has a text
-abbrev pub HeadIsTold : Family → List ℕ → Item → List Entry → Type 0
-HeadIsTold family list x [] = ⊥
-HeadIsTold family list x (e ∷ es) = HasText family list e
+abbrev pub HeadHasSomeText : Family → List ℕ → Item → List Entry → Type 0
+HeadHasSomeText family list x [] = ⊥
+HeadHasSomeText family list x (e ∷ es) = HasText family list e
 
 -- ---- names
 

@@ -1,4 +1,4 @@
--- The fields of structs: of the payloads that entries spell.
+-- The fields of structs: of the payloads that entries encode to.
 use Rattle.std.specs.Prelude.{◌≡◌, ℕ, ◌+◌, Bool, true, false, List, [], ◌∷◌, map, codes, replicate, slice_get, nat_le, Option, Some, None, Result, Ok, Err}
 use Rattle.std.specs.List.{list_all}
 use Rattle.std.specs.Int.{w64, cast_unsigned}
@@ -84,13 +84,13 @@ FieldOf fields (Ok p) i new result = FieldIn (slice_get fields i) p new result
 FieldOf fields (Err misfit) i new result = result ≡ Err (refusal_for misfit)
 
 -- the fields of an entry with this label
-abbrev pub fields_told : Result (Option Label) Misfit → List FieldRow
-fields_told (Ok label) = shown_fields label
-fields_told (Err misfit) = []
+abbrev pub fields_by_label : Result (Option Label) Misfit → List FieldRow
+fields_by_label (Ok label) = shown_fields label
+fields_by_label (Err misfit) = []
 
--- field i of the payload that an entry with this label spells; or the error is that of writing it
+-- field i of the payload that an entry with this label encodes to; or the error is that of writing it
 abbrev pub FieldBy : Result (Option Label) Misfit → Entry → ℕ → List ℕ → StructField → Result ℕ Refusal → Type 0
-FieldBy told e i octets new result = FieldOf (fields_told told) (payload_by told e octets) i new result
+FieldBy its_label e i octets new result = FieldOf (fields_by_label its_label) (payload_by its_label e octets) i new result
 
 abbrev pub FieldAnswers : Entry → ℕ → List ℕ → StructField → Family → Result ℕ Refusal → Type 0
 FieldAnswers e i octets new family result = FieldBy (own_label family e) e i octets new result

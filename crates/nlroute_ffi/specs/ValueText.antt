@@ -1,4 +1,4 @@
--- The texts of values: of the payloads that they spell.
+-- The texts of values: of the payloads that they encode to.
 use Rattle.std.specs.Prelude.{◌≡◌, ℕ, ◌==◌, Bool, true, false, List, [], Option, Some, None, option_map, Result, Ok, Err, if◌then◌else◌}
 use Rattle.link_base.specs.declared.rows.form.Form.{Form}
 use Rattle.link_base.specs.declared.rows.form.Form.TheVariants as forms
@@ -60,7 +60,7 @@ fields_for label = fields_in (option_map (λ (l : Label). l.form) label)
 
 -- ---- payloads
 
--- the payload that an entry with this label spells, without elements, as `nlroute_write` writes it
+-- the payload that an entry with this label encodes to, without elements, as `nlroute_write` writes it
 abbrev pub payload_by : Result (Option Label) Misfit → Entry → List ℕ → Result (List ℕ) Misfit
 payload_by (Ok label) e octets = payload_of (fields_for label) (record e { kind = own_kind e }) octets
 payload_by (Err misfit) e octets = Err misfit
@@ -76,12 +76,12 @@ is_passed fields.Limits = true
 is_passed fields.Unknown = true
 is_passed own = false
 
--- the bytes whose text an entry has, if it spells p: those that it refers to, as they are passed in; otherwise p. They
+-- the bytes whose text an entry has, if it encodes to p: those that it refers to, as they are passed in; otherwise p. They
 -- differ only in the name of a CAN controller, which is printed as it is, and written as it decodes
 abbrev pub shown_bytes : Fields → Entry → List ℕ → List ℕ → List ℕ
 shown_bytes own e octets p = if is_passed own then referred e octets else p
 
--- an entry with these fields spells a payload, and s is what is shown of it
+-- an entry with these fields encodes to a payload, and s is what is shown of it
 abbrev pub Shows : Fields → Entry → List ℕ → List ℕ → Type 0
 Shows own e octets s = (p : List ℕ) × (payload_of own e octets ≡ Ok p) × (s ≡ shown_bytes own e octets p)
 
@@ -118,7 +118,7 @@ abbrev pub label_or_plain : Option Label → Label
 label_or_plain None = plain_label
 label_or_plain (Some label) = label
 
--- the text of an entry with this label: of a content of the payload that it spells
+-- the text of an entry with this label: of a content of the payload that it encodes to
 abbrev pub IsText : Result (Option Label) Misfit → Entry → List ℕ → List ℕ → Type 0
 IsText (Ok label) e octets words =
     (s : List ℕ) × Shows (fields_for label) (record e { kind = own_kind e }) octets s × ((content : Content) × IsContent label s content × (words ≡ content_text (label_or_plain label) content))
@@ -127,10 +127,10 @@ IsText (Err misfit) e octets words = ⊥
 abbrev pub IsEntryText : Family → Entry → List ℕ → List ℕ → Type 0
 IsEntryText family e octets words = IsText (own_label family e) e octets words
 
--- the entry spells a payload, and the buffer has its text; or it spells none, and the error is that of writing it
+-- the entry encodes to a payload, and the buffer has its text; or it encodes to none, and the error is that of writing it
 abbrev pub LabelAnswers : Result (Option Label) Misfit → Entry → List ℕ → List ℕ → List ℕ → Result ℕ Refusal → Type 0
-LabelAnswers told e octets old new (Ok n) = (words : List ℕ) × IsText told e octets words × StoresText words old new n
-LabelAnswers told e octets old new (Err refusal) = (misfit : Misfit) × (payload_by told e octets ≡ Err misfit) × (refusal ≡ refusal_for misfit)
+LabelAnswers its_label e octets old new (Ok n) = (words : List ℕ) × IsText its_label e octets words × StoresText words old new n
+LabelAnswers its_label e octets old new (Err refusal) = (misfit : Misfit) × (payload_by its_label e octets ≡ Err misfit) × (refusal ≡ refusal_for misfit)
 
 abbrev pub TextAnswers : Entry → List ℕ → List ℕ → List ℕ → Family → Result ℕ Refusal → Type 0
 TextAnswers e octets old new family result = LabelAnswers (own_label family e) e octets old new result

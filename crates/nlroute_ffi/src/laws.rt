@@ -28,7 +28,7 @@ ghost use Rattle.link_entries.specs.declared.entry.Entry.{Entry};
 ghost use Rattle.link_entries.specs.declared.misfit.Misfit.{Misfit};
 ghost use Rattle.link_entries.specs.Fields.{row_fields};
 ghost use Rattle.link_entries.specs.Payload.{form_in};
-ghost use Rattle.link_entries.specs.Spelled.{spelled_by};
+ghost use Rattle.link_entries.specs.Encoded.{encoded_by};
 ghost use Rattle.link_entries.specs.Flat.{Flat, IsElement, number_entry, address_entry};
 ghost use Rattle.netlink_packet_route.specs.declared.link.DecodeFault.{DecodeFault};
 ghost use Rattle.nlroute_ffi.specs.declared.fault.FirstError.{FirstError};
@@ -45,7 +45,7 @@ ghost use Rattle.nlroute_ffi.specs.Timing.{shown_fields};
 ghost use Rattle.nlroute_ffi.specs.ValueText.{own_label, entry_payload, IsEntryText, TextAnswers};
 ghost use Rattle.nlroute_ffi.specs.StructFields.{field_form, is_named, NameFields};
 ghost use Rattle.nlroute_ffi.specs.Writing.{refusal_for};
-ghost use Rattle.nlroute_ffi.specs.Shown.{IsAt, IsTextOf, HeadHasText, HasText, HeadIsTold, IsWithName, IsByName};
+ghost use Rattle.nlroute_ffi.specs.Shown.{IsAt, IsTextOf, HeadHasText, HasText, HeadHasSomeText, IsWithName, IsByName};
 
 use crate::refusal::Refusal;
 
@@ -80,7 +80,7 @@ pub fn first_errors()
         → FirstFault (Gives table) s at fault → FaultOccurs fault }
     ensures stored { (table : Table) (s : List ℕ) (e : FirstError) (n : ℕ) → IsBytes s → ErrorAnswers s e table (Ok n)
         → (at : ℕ) × (fault : DecodeFault) × FirstFault (Gives table) s at fault × (e.at ≡ at) × (fault_of e ≡ Some fault) }
-    ensures told { (family other : Family) (s : List ℕ) (e : FirstError) (n : ℕ) (old new : List ℕ) (result : Result ℕ Refusal)
+    ensures printed { (family other : Family) (s : List ℕ) (e : FirstError) (n : ℕ) (old new : List ℕ) (result : Result ℕ Refusal)
         → IsBytes s → ErrorAnswers s e (table_of family) (Ok n) → ErrorTextAnswers e old new other result
         → result ≢ Err Refusal.BadForm }
 {}
@@ -106,7 +106,7 @@ pub fn one_message()
 pub fn errors_of_messages()
     ensures stored { (at : ℕ) (r : List ℕ) (x : FirstError) (n : ℕ) → IsBytes r → MessageErrorAnswers at r x (Ok n)
         → (e : MessageError) × ReadsMessage at r (Err e) × (message_error_of x ≡ Some e) }
-    ensures told { (at : ℕ) (r : List ℕ) (x : FirstError) (n : ℕ) (family : Family) (old new : List ℕ) (result : Result ℕ Refusal)
+    ensures printed { (at : ℕ) (r : List ℕ) (x : FirstError) (n : ℕ) (family : Family) (old new : List ℕ) (result : Result ℕ Refusal)
         → IsBytes r → MessageErrorAnswers at r x (Ok n) → ErrorTextAnswers x old new family result
         → result ≢ Err Refusal.BadForm }
 {}
@@ -136,7 +136,7 @@ pub fn names_of_bits()
 /// addresses, has a text: `nlroute_text` returns no error for them.
 pub fn entries_have_texts()
     ensures attributes { (family : Family) (list : List ℕ) (es : List Entry) → IsBytes list → (flat : Flat (table_of family) list es)
-        → AllZip (HeadIsTold family list) flat.items flat.groups }
+        → AllZip (HeadHasSomeText family list) flat.items flat.groups }
     ensures elements { (family : Family) (list : List ℕ) (kind offset : ℕ) (flagged : Bool) (b : NlaBuffer) (e : Entry)
         → IsBytes list → form_at (table_of family) kind ≡ Some (forms.List flagged) → IsAt list offset b
         → IsElement (elements_at (table_of family) kind) kind offset b e → HasText family list e }
@@ -152,10 +152,10 @@ pub fn entries_have_texts()
 /// that it refuses an attribute for which `nlroute_text` returns an error, with the same error.
 pub fn texts_and_writing()
     ensures written { (family : Family) (octets written : List ℕ) (es : List Entry)
-        → spelled_by (table_of family) octets es ≡ Ok written → AllByRecursion (HasText family octets) es }
+        → encoded_by (table_of family) octets es ≡ Ok written → AllByRecursion (HasText family octets) es }
     ensures refused { (family : Family) (octets old new : List ℕ) (e : Entry) (es : List Entry) (refusal : Refusal)
         → e.depth ≡ 0 → TextAnswers e octets old new family (Err refusal)
-        → (misfit : Misfit) × (spelled_by (table_of family) octets (e ∷ es) ≡ Err (0, misfit)) × (refusal ≡ refusal_for misfit) }
+        → (misfit : Misfit) × (encoded_by (table_of family) octets (e ∷ es) ≡ Err (0, misfit)) × (refusal ≡ refusal_for misfit) }
 {}
 
 /// States that each field of a struct has the form of an attribute whose values have the field's form, and a name that is not

@@ -258,9 +258,9 @@ pub extern "C" fn nlroute_can_bittiming_const(
     answer_of(timing_limits(value, octets, limits))
 }
 
-/// Stores the field with this index, of the struct that `value` spells, in `field`, and returns 0: of the attribute or the
-/// element that `nlroute_write` writes for the value. `octets` has the bytes that it refers to; the form 0 stands for that of
-/// the attribute type.
+/// Stores the field with this index, of the struct that `value` encodes to, in `field`, and returns 0: of the attribute
+/// or the element that `nlroute_write` writes for the value. `octets` has the bytes that it refers to; the form 0 stands
+/// for that of the attribute type.
 ///
 /// # Errors
 ///
@@ -279,7 +279,7 @@ pub extern "C" fn nlroute_read_field(
     answer_by!(family, store_field(family, value, index, octets, field))
 }
 
-/// Writes the list that `values` spell to the start of `out`; a value may refer to bytes in `octets`. Returns `n`, the
+/// Writes `values` as a list to the start of `out`; a value may refer to bytes in `octets`. Returns `n`, the
 /// number of bytes written; `out[n..]` is unchanged.
 ///
 /// # Errors
@@ -321,8 +321,8 @@ pub extern "C" fn nlroute_measure(
 }
 
 /// Writes a request about a link to the start of `out`: the message with this head, and the attributes of the set `link` that
-/// `values` spell; a value may refer to bytes in `octets`. Returns `n`, the number of bytes written; `out[n..]` and `at` are
-/// unchanged.
+/// `values` encode to; a value may refer to bytes in `octets`. Returns `n`, the number of bytes written; `out[n..]` and
+/// `at` are unchanged.
 ///
 /// # Errors
 ///

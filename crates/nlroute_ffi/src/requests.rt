@@ -8,7 +8,7 @@ use crate::refusal::{Refusal, refused_for};
 use link_entries::Entry;
 use link_requests::{Head, RequestError, measure, write_request};
 
-/// Writes the request that a head and values spell to the start of `out`. Returns the number of bytes written; the rest of
+/// Writes the request of a head and values to the start of `out`. Returns the number of bytes written; the rest of
 /// `out`, and `at`, are unchanged.
 ///
 /// # Errors

@@ -1,4 +1,4 @@
-//! The fields of structs: of the payloads that values spell.
+//! The fields of structs: of the payloads that values encode to.
 
 ghost use Rattle.std.specs.Prelude.{◌≡◌, true, length, slice_get, replicate, IfOk, OnErr};
 ghost use Rattle.link_base.specs.Labels.{label_in, field_row, field_rows};
@@ -40,7 +40,7 @@ pub struct StructField {
     pub octets: [u8; 16],
 }
 
-/// Stores the field with this index, of the struct that a value of a list of `family` spells, in `field`, and returns 0.
+/// Stores the field with this index, of the struct that a value of a list of `family` encodes to, in `field`, and returns 0.
 /// `octets` has the bytes that the value refers to.
 ///
 /// # Errors

@@ -1,4 +1,4 @@
-//! The texts of values: of the payloads that they spell.
+//! The texts of values: of the payloads that they encode to.
 
 ghost use Rattle.std.specs.Prelude.{◌≡◌, ◌<◌, ◌^◌, [], Ok, Err, length, IfOk, OnErr, MatchResult};
 ghost use Rattle.link_base.specs.Labels.{label_of, label_in};
@@ -51,7 +51,8 @@ impl Words for ValueWords<'_> {
     }
 }
 
-/// Stores the text of a value of a list of `family`: of the payload that it spells. `octets` has the bytes that it refers to.
+/// Stores the text of a value of a list of `family`: of the payload that it encodes to. `octets` has the bytes that it
+/// refers to.
 ///
 /// # Errors
 ///
@@ -188,8 +189,8 @@ pub(crate) fn fields_of(label: Option<KindLabel>) -> Fields
     }
 }
 
-/// Returns the payload that an entry of type `of_kind` with these fields spells. Bytes that it refers to are returned as they
-/// are in `octets`; others are stored in `room`, after the place of a header.
+/// Returns the payload that an entry of type `of_kind` with these fields encodes to. Bytes that it refers to are returned
+/// as they are in `octets`; others are stored in `room`, after the place of a header.
 ///
 /// # Errors
 ///

@@ -10,7 +10,7 @@ use netlink_packet_route::Family;
 /// The greatest length of a buffer, `PTRDIFF_MAX`.
 const MOST_BYTES: usize = 0x7FFF_FFFF_FFFF_FFFF;
 
-/// Writes the list that values spell to the start of `out`. Returns the number of bytes written; the rest of `out` is
+/// Writes values as a list to the start of `out`. Returns the number of bytes written; the rest of `out` is
 /// unchanged.
 ///
 /// # Errors
@@ -34,7 +34,7 @@ pub(crate) fn write_values(
     }
 }
 
-/// Returns the length of the list that values spell.
+/// Returns the length of values that are written as a list.
 ///
 /// # Errors
 ///

@@ -27,7 +27,7 @@ ghost use Rattle.program.specs.Watched.{given, has_failed, passed_on};
 ghost use Rattle.show_lines.specs.Arguments.{IsError, IsRequest, IsWrong, reply_status, reply_text};
 ghost use Rattle.show_lines.specs.Command.{Asks};
 
-use link_json::Sheet;
+use link_json::Document;
 use link_show::write_quoted;
 use program::{
     UntilEnd, Watched, collect_arguments, end_failed, print, print_no_memory, print_text,
@@ -160,8 +160,8 @@ fn run_on<R: Read, W: Write + Drop>(
     match output {
         Output::Text(options) => run(alloc, &options, &mut (), raw, reader, writer),
         Output::Json => {
-            let mut sheet = Sheet::new(alloc);
-            run(alloc, &Json { file }, &mut sheet, raw, reader, writer)
+            let mut doc = Document::new(alloc);
+            run(alloc, &Json { file }, &mut doc, raw, reader, writer)
         }
     }
 }

@@ -36,7 +36,7 @@ impl<R: Read> Read for UntilEnd<R> {
         ensures bound { ReadsAtMost result buf.new }
         ensures bytes { ReadConsumes (left_of R.remaining self.old) (left_of R.remaining self.new) result buf.new }
         // The end is kept in mind, and the reader below is not asked again.
-        ensures told { result ≡ Ok 0 → 0 < length buf.new → has_ended self.new ≡ true }
+        ensures seen { result ≡ Ok 0 → 0 < length buf.new → has_ended self.new ≡ true }
         ensures ended { has_ended self.old ≡ true → (result ≡ Ok 0) × (self.new ≡ self.old) }
     {
         if self.has_ended {

@@ -1,5 +1,5 @@
 pub mod Begun
 pub mod Inputs
+pub mod KnownForm
 pub mod Passing
 pub mod Printing
-pub mod Told

@@ -5,7 +5,7 @@ use Rattle.std.proofs.Math.Bool.{and_assoc}
 use Rattle.std.proofs.lemmas.List.{drop-append-le}
 use Rattle.std.proofs.lemmas.Grind.{flat_map-append}
 use Rattle.link_capture.specs.declared.error.InputError.{InputError}
-use Rattle.link_capture.specs.Told.{Told, State}
+use Rattle.link_capture.specs.Meaning.{UnitMeaning, State}
 use Rattle.link_capture.specs.Unit.{Leads, IsUnit, IsError, Follows}
 use Rattle.link_show.specs.List.{EachShown}
 use Rattle.link_show.proofs.Listing.{and_false, each_none, each_more}
@@ -16,15 +16,15 @@ use Rattle.show_captures.specs.Shower.{UnitShower}
 
 -- ---- units after units
 
-pub leads_both : (a : State) (i : ℕ) (s : List ℕ) (xs : List Told) (b : State) (j : ℕ) (t : List ℕ) (ys : List Told) (c : State) (k : ℕ) (u : List ℕ) → Leads a i s xs b j t → Leads b j t ys c k u → Leads a i s (xs ++ ys) c k u
+pub leads_both : (a : State) (i : ℕ) (s : List ℕ) (xs : List UnitMeaning) (b : State) (j : ℕ) (t : List ℕ) (ys : List UnitMeaning) (c : State) (k : ℕ) (u : List ℕ) → Leads a i s xs b j t → Leads b j t ys c k u → Leads a i s (xs ++ ys) c k u
 leads_both a i s [] b j t ys c k u (same, at, left) h = subst (λ n. Leads a n s ys c k u) at (subst (λ l. Leads a j l ys c k u) left (subst (λ x. Leads x j t ys c k u) same h))
 leads_both a i s (x ∷ xs) b j t ys c k u (next, (size, unit, rest)) h = (next, (size, unit, leads_both next (i + size) (drop size s) xs b j t ys c k u rest h))
 
-pub packets_both : (n : ℕ) (xs ys : List Told) → packets_in n (xs ++ ys) ≡ packets_in (packets_in n xs) ys
+pub packets_both : (n : ℕ) (xs ys : List UnitMeaning) → packets_in n (xs ++ ys) ≡ packets_in (packets_in n xs) ys
 packets_both n [] ys = refl
 packets_both n (x ∷ xs) ys = packets_both (packets_to n x) xs ys
 
-pub counted_both : (n : ℕ) (xs ys : List Told) → counted n (xs ++ ys) ≡ counted n xs ++ counted (packets_in n xs) ys
+pub counted_both : (n : ℕ) (xs ys : List UnitMeaning) → counted n (xs ++ ys) ≡ counted n xs ++ counted (packets_in n xs) ys
 counted_both n [] ys = refl
 counted_both n (x ∷ xs) ys = ap (λ l. (n, x) ∷ l) (counted_both (packets_to n x) xs ys)
 
@@ -63,16 +63,16 @@ module _ {shower : UnitShower} where
   }
 
   -- one unit
-  pub passes_one : (is_last : Bool) (a b c : Place) (s out : List ℕ) (n : ℕ) (told : Told) (well : Bool) → (b.at ≡ a.at) × (b.packets ≡ a.packets) → n ≤ length s → ((more : List ℕ) → Follows is_last more → IsUnit a.capture (s ++ more) told n b.capture)
-      → Counts told n b c → ShowsUnit shower (a.packets, told) out well → Passes shower is_last a c s (drop n s) out well
-  passes_one is_last a b c s out n told well same within unit counts shown = record {
-    units = told ∷ [];
+  pub passes_one : (is_last : Bool) (a b c : Place) (s out : List ℕ) (n : ℕ) (meaning : UnitMeaning) (well : Bool) → (b.at ≡ a.at) × (b.packets ≡ a.packets) → n ≤ length s → ((more : List ℕ) → Follows is_last more → IsUnit a.capture (s ++ more) meaning n b.capture)
+      → Counts meaning n b c → ShowsUnit shower (a.packets, meaning) out well → Passes shower is_last a c s (drop n s) out well
+  passes_one is_last a b c s out n meaning well same within unit counts shown = record {
+    units = meaning ∷ [];
     leads = λ more follows. (b.capture, (n, unit more follows, (counts.capture, counts.at ∙ ap (λ i. i + n) same.0, sym (drop-append-le n s more within))));
-    packets = counts.packets ∙ ap (λ k. packets_to k told) same.1;
-    each = one (each_more (ShowsUnit shower) [] [] (a.packets, told) out true well (each_none (ShowsUnit shower)) shown);
+    packets = counts.packets ∙ ap (λ k. packets_to k meaning) same.1;
+    each = one (each_more (ShowsUnit shower) [] [] (a.packets, meaning) out true well (each_none (ShowsUnit shower)) shown);
   }
     where
-      one : EachShown (ShowsUnit shower) ((a.packets, told) ∷ []) out (true && well) → EachShown (ShowsUnit shower) ((a.packets, told) ∷ []) out well
+      one : EachShown (ShowsUnit shower) ((a.packets, meaning) ∷ []) out (true && well) → EachShown (ShowsUnit shower) ((a.packets, meaning) ∷ []) out well
       one h = h
 
   -- more bytes follow those that passed

@@ -32,7 +32,7 @@ use Rattle.link_capture.specs.declared.other_format.OtherFormat.TheVariants as f
 use Rattle.link_capture.specs.ErrorText.{head_text, size_text, bytes_text, error_text}
 use Rattle.link_capture.specs.Order.{number_at}
 use Rattle.link_capture.specs.OtherFormat.{format_text}
-use Rattle.link_capture.specs.Told.{Told, Nothing, APacket, AMessage, ATime, Captured, State}
+use Rattle.link_capture.specs.Meaning.{UnitMeaning, Nothing, APacket, AMessage, ATime, Captured, State}
 use Rattle.link_capture.specs.Unit.{Leads}
 use Rattle.link_capture.proofs.Kept.{AreKept, HasAll, leads_has}
 use Rattle.link_show.specs.Printable.{IsText, AreTexts}
@@ -187,7 +187,7 @@ short_texts n = line_texts (line_and {t = codes "  error at 0: "} (text refl) (l
 abbrev OfBytes : Captured → Type 0
 OfBytes p = IsBytes p.bytes
 
-abbrev HasBytes : Told → Type 0
+abbrev HasBytes : UnitMeaning → Type 0
 HasBytes = HasAll IsBytes OfBytes (λ interface. Unit {0})
 
 bytes_kept : AreKept IsBytes OfBytes (λ interface. Unit {0})
@@ -200,11 +200,11 @@ bytes_kept = record {
 }
 
 -- those of all units, each with the number of packets before it
-numbered : (k : ℕ) (units : List Told) → AllByRecursion HasBytes units → AllByRecursion (λ x. HasBytes x.1) (counted k units)
+numbered : (k : ℕ) (units : List UnitMeaning) → AllByRecursion HasBytes units → AllByRecursion (λ x. HasBytes x.1) (counted k units)
 numbered k [] h = tt
-numbered k (told ∷ units) h = (h.0, numbered (packets_to k told) units h.1)
+numbered k (meaning ∷ units) h = (h.0, numbered (packets_to k meaning) units h.1)
 
-leads_bytes : (k : ℕ) (state : State) (at : ℕ) (s : List ℕ) (units : List Told) (last : State) (end : ℕ) (left : List ℕ) → AllByRecursion (λ interface. Unit {0}) state.interfaces → IsBytes s → Leads state at s units last end left
+leads_bytes : (k : ℕ) (state : State) (at : ℕ) (s : List ℕ) (units : List UnitMeaning) (last : State) (end : ℕ) (left : List ℕ) → AllByRecursion (λ interface. Unit {0}) state.interfaces → IsBytes s → Leads state at s units last end left
     → AllByRecursion (λ x. HasBytes x.1) (counted k units)
 leads_bytes k state at s units last end left known h leads = numbered k units (leads_has IsBytes OfBytes (λ interface. Unit {0}) bytes_kept state at s units last end left known h leads)
 
@@ -227,7 +227,7 @@ module _ (options : Options) (plain : options.format ≡ Plain) where
   time_texts : (time : Time) (out : List ℕ) → ShowsTime time out → AreTexts out
   time_texts time out (t, is_time, is) = subst AreTexts (sym is) (line_texts (line_end (and {s = codes "time "} (text refl) (instant_is_text time t is_time))))
 
-  unit_texts : (x : ℕ × Told) (out : List ℕ) (well : Bool) → HasBytes x.1 → ShowsUnit (units_by_options options) x out well → AreTexts out
+  unit_texts : (x : ℕ × UnitMeaning) (out : List ℕ) (well : Bool) → HasBytes x.1 → ShowsUnit (units_by_options options) x out well → AreTexts out
   unit_texts (n, Nothing) out well h shown = subst AreTexts (sym shown.0) no_texts
   unit_texts (n, APacket p) out well h shown = packet_texts (suc n) p out well h.all shown
   unit_texts (n, AMessage bytes) out well h shown = bare_texts bytes out well h.all shown

@@ -5,7 +5,7 @@ use Rattle.byteorder.specs.Endian.{big_number}
 use Rattle.link_base.specs.Labels.{name_in}
 use Rattle.link_capture.specs.ErrorText.{bytes_text}
 use Rattle.link_capture.specs.Pcap.{netlink}
-use Rattle.link_capture.specs.Told.{Captured}
+use Rattle.link_capture.specs.Meaning.{Captured}
 use Rattle.netlink_packet_route.specs.Report.{line}
 use Rattle.show_lines.specs.declared.arguments.Options.{Options}
 use Rattle.show_lines.specs.Show.{ShowsBare}

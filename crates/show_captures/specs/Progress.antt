@@ -3,7 +3,7 @@ use Rattle.std.specs.Prelude.{◌≡◌, ◌≤◌, ℕ, ◌+◌, Bool, true, fa
 use Rattle.std.specs.Io.KnownBytes.{Appends, Consumes, IsAtEnd}
 use Rattle.link_capture.specs.declared.error.InputError.{InputError}
 use Rattle.link_capture.specs.declared.form.Form.{Form}
-use Rattle.link_capture.specs.Told.{Told}
+use Rattle.link_capture.specs.Meaning.{UnitMeaning}
 use Rattle.link_capture.specs.Form.{begins_magic}
 use Rattle.link_capture.specs.Unit.{Leads, IsEnd, IsTooShort, Follows}
 use Rattle.link_show.specs.List.{EachShown}
@@ -20,7 +20,7 @@ start_of form = record { capture = record { form = form; interfaces = [] }; at =
 -- the units of the bytes s lead from one place of an input to another, where the bytes `left` are left, whatever follows; and
 -- the output for them
 pub record Passes (shower : UnitShower) (is_last : Bool) (old new : Place) (s left out : List ℕ) (well : Bool) : Type 0 where
-  pub units : List Told
+  pub units : List UnitMeaning
   pub leads : (more : List ℕ) → Follows is_last more → Leads old.capture old.at (s ++ more) units new.capture new.at (left ++ more)
   pub packets : new.packets ≡ packets_in old.packets units
   pub each : EachShown (ShowsUnit shower) (counted old.packets units) out well
@@ -38,10 +38,10 @@ pub record Finishes (shower : UnitShower) (is_last : Bool) (old : Place) (s out 
   pub all : whole ≡ (well && is_well fault)
 
 -- a unit of n bytes was counted
-pub record Counts (told : Told) (n : ℕ) (old new : Place) : Type 0 where
+pub record Counts (meaning : UnitMeaning) (n : ℕ) (old new : Place) : Type 0 where
   pub capture : new.capture ≡ old.capture
   pub at : new.at ≡ old.at + n
-  pub packets : new.packets ≡ packets_to old.packets told
+  pub packets : new.packets ≡ packets_to old.packets meaning
 
 -- n bytes were read and appended, none of them only at the end
 abbrev pub ReadsOn : List ℕ → List ℕ → Option (List ℕ) → Option (List ℕ) → ℕ → Type 0

@@ -3,7 +3,7 @@
 ghost use Rattle.std.specs.Prelude.{◌≡◌, ◌≢◌, ◌≤◌, ◌++◌, Bool, List, ℕ, suc, length, drop, false, IfOk, OnOk};
 ghost use Rattle.std.specs.Io.KnownBytes.{Appends};
 ghost use Rattle.link_base.specs.Labels.{name_in};
-ghost use Rattle.link_capture.specs.Told.{captured_of};
+ghost use Rattle.link_capture.specs.Meaning.{captured_of};
 ghost use Rattle.show_captures.specs.Packet.{Carries, ShowsPacket, ShowsBelow, packet_line, protocol_in, original_part, protocol_part, protocol_name, protocol_of, type_part, short_line};
 ghost use Rattle.show_lines.specs.Pieces.{Grows, IfWritten};
 

@@ -1,7 +1,7 @@
 //! How far an input is read.
 
 ghost use Rattle.std.specs.Prelude.{◌≡◌, ◌⊎◌, ◌≤◌, ◌+◌, ◌^◌, OnOk, IfErr, IsErr};
-ghost use Rattle.link_capture.specs.Told.{told_of};
+ghost use Rattle.link_capture.specs.Meaning.{meaning_of};
 ghost use Rattle.show_captures.specs.Event.{packets_to};
 ghost use Rattle.show_captures.specs.Progress.{Counts, start_of};
 ghost use Rattle.show_lines.specs.declared.running.Stop.TheVariants.{Reader};
@@ -38,10 +38,10 @@ impl Place {
     ///
     /// `Reader` if the offset or the number of packets would be 2<sup>64</sup>. Then nothing is counted.
     pub(crate) fn count(&mut self, event: &Event<'_>, size: usize) -> Result<(), Stop>
-        ensures counted { OnOk result (Counts (told_of event.now) size self.old self.new) }
+        ensures counted { OnOk result (Counts (meaning_of event.now) size self.old self.new) }
         ensures failed { IfErr result (λ stop. stop ≡ Reader) }
         ensures full { IsErr result → (2 ^ 64 ≤ self.old.at + size)
-            ⊎ (2 ^ 64 ≤ packets_to self.old.packets (told_of event.now)) }
+            ⊎ (2 ^ 64 ≤ packets_to self.old.packets (meaning_of event.now)) }
         ensures kept { IsErr result → self.new ≡ self.old }
     {
         let Some(at) = self.at.checked_add(size as u64) else {
@@ -58,7 +58,7 @@ impl Place {
 
 /// Returns the number of packets in a unit: 0 or 1.
 fn packets_in(event: &Event<'_>) -> u64
-    ensures { result ≡ packets_to 0 (told_of event.now) }
+    ensures { result ≡ packets_to 0 (meaning_of event.now) }
 {
     match event {
         Event::Packet(_) => 1,

@@ -4,14 +4,8 @@ ghost use Rattle.std.specs.Prelude.{◌≡◌, option_map};
 ghost use Rattle.link_base.specs.Labels.{name_in};
 ghost use Rattle.show_captures.specs.Protocol.{protocols};
 
+use link_base::names;
 use link_base::rows::label::{Name, name_of};
-
-/// Names, each after its number.
-macro_rules! names {
-    ($($number:literal $text:literal)*) => {
-        &[$(Name { number: $number, text: $text },)*]
-    };
-}
 
 const PROTOCOLS: &[Name] = names![
     0 "NETLINK_ROUTE"

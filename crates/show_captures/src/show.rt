@@ -3,7 +3,7 @@
 ghost use Rattle.std.specs.Prelude.{◌≡◌, ◌<◌, [], List, ℕ, false, IfOk, OnOk};
 ghost use Rattle.std.specs.Io.Buffered.{writer_buffer, writer_inner};
 ghost use Rattle.std.specs.Io.KnownBytes.{Appends};
-ghost use Rattle.link_capture.specs.Told.{captured_of};
+ghost use Rattle.link_capture.specs.Meaning.{captured_of};
 ghost use Rattle.program.specs.Printing.{no_memory_line, read_fault_line};
 ghost use Rattle.program.specs.Watched.{given, has_failed, passed_on};
 ghost use Rattle.show_captures.specs.ByOptions.{units_by_options};

@@ -2,7 +2,7 @@
 
 ghost use Rattle.std.specs.Prelude.{◌≡◌, ◌≤◌, ◌^◌, List, ℕ, suc, length, drop, false, Some, IfOk, MatchOption};
 ghost use Rattle.std.specs.Io.KnownBytes.{Appends};
-ghost use Rattle.link_capture.specs.Told.{told_of};
+ghost use Rattle.link_capture.specs.Meaning.{meaning_of};
 ghost use Rattle.show_captures.specs.Event.{WritesUnit, end_line};
 ghost use Rattle.show_captures.specs.Progress.{WritesUnits, Counts};
 ghost use Rattle.show_captures.specs.declared.units.Turn.TheVariants.{Done};
@@ -75,8 +75,8 @@ fn write_unit<S: ShowUnits, W: Write>(
     size: usize,
     writer: &mut W,
 ) -> Result<bool, Stop>
-    ensures shown { IfOk result (λ well. WritesUnit (S.units shown.now) place.old.packets (told_of event.now)
-        (W.contents writer.old) (W.contents writer.new) well × Counts (told_of event.now) size place.old place.new) }
+    ensures shown { IfOk result (λ well. WritesUnit (S.units shown.now) place.old.packets (meaning_of event.now)
+        (W.contents writer.old) (W.contents writer.new) well × Counts (meaning_of event.now) size place.old place.new) }
     ensures pieces { IfWritten result (AddsPieces (S.piece shown.now)
         (W.contents writer.old) (W.contents writer.new)) }
 {
@@ -99,7 +99,7 @@ fn write_event<S: ShowUnits, W: Write>(
     event: &Event<'_>,
     writer: &mut W,
 ) -> Result<bool, Stop>
-    ensures shown { IfOk result (WritesUnit (S.units shown.now) packets (told_of event.now)
+    ensures shown { IfOk result (WritesUnit (S.units shown.now) packets (meaning_of event.now)
         (W.contents writer.old) (W.contents writer.new)) }
     ensures pieces { IfWritten result (AddsPieces (S.piece shown.now)
         (W.contents writer.old) (W.contents writer.new)) }

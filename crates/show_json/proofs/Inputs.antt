@@ -3,7 +3,7 @@ use Rattle.std.proofs.Common.{ℕ, suc, Bool, true, false, List, [], Option, Som
 use Rattle.link_capture.specs.declared.error.InputError.{InputError}
 use Rattle.link_capture.specs.declared.form.Form.{Form as InputForm}
 use Rattle.link_capture.specs.declared.other_format.OtherFormat.{OtherFormat}
-use Rattle.link_capture.specs.Told.{Told, Nothing, APacket, AMessage, ATime}
+use Rattle.link_capture.specs.Meaning.{UnitMeaning, Nothing, APacket, AMessage, ATime}
 use Rattle.show_captures.specs.Event.{ShowsUnit, ShowsCapture, counted, end_line, is_well}
 use Rattle.show_captures.specs.Run.{ShowsForm, ShowsFile, ShowsInput, input_form}
 use Rattle.show_json.specs.declared.by_json.Json.{Json as Form}
@@ -14,7 +14,7 @@ use Rattle.show_json.proofs.Joined.{none_are, both_are, equal_are, each_are}
 use Rattle.show_json.proofs.Written.{packet_are, message_are, time_is, error_is, format_is}
 
 module _ (json : Form) where
-  unit_are : (x : ℕ × Told) (out : List ℕ) (well : Bool) → ShowsUnit (units_json json) x out well → AreDocuments out well
+  unit_are : (x : ℕ × UnitMeaning) (out : List ℕ) (well : Bool) → ShowsUnit (units_json json) x out well → AreDocuments out well
   unit_are (n, Nothing) out well (e, good) = equal_are out [] well true e good none_are
   unit_are (n, APacket p) out well shown = packet_are json (suc n) p out well shown
   unit_are (n, AMessage bytes) out well shown = message_are json bytes out well shown

@@ -3,7 +3,7 @@ use Rattle.std.proofs.Common.{◌/◌, ◌%◌, ℕ, suc, List, [], length, Opti
 use Rattle.json.specs.Json.{Json}
 use Rattle.link_base.specs.Labels.{name_in}
 use Rattle.link_capture.specs.declared.event.Time.{Time}
-use Rattle.link_capture.specs.Told.{Captured}
+use Rattle.link_capture.specs.Meaning.{Captured}
 use Rattle.link_json.specs.Line.{IsPlace}
 use Rattle.link_json.proofs.Places.{place}
 use Rattle.link_json.proofs.Sound.{IsSound, no_fields, field_sound, object_sound, string_sound, null_sound, number_sound, named_sound}

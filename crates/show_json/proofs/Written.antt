@@ -7,7 +7,7 @@ use Rattle.link_capture.specs.declared.event.Time.{Time}
 use Rattle.link_capture.specs.declared.other_format.OtherFormat.{OtherFormat}
 use Rattle.link_capture.specs.ErrorText.{bytes_text, error_text}
 use Rattle.link_capture.specs.OtherFormat.{format_text}
-use Rattle.link_capture.specs.Told.{Captured}
+use Rattle.link_capture.specs.Meaning.{Captured}
 use Rattle.link_json.specs.Doc.{Field}
 use Rattle.link_json.specs.Line.{IsPlace}
 use Rattle.link_json.specs.Message.{document_line}

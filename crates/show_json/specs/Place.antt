@@ -3,7 +3,7 @@ use Rattle.std.specs.Prelude.{ℕ, List, [], ◌∷◌, ◌++◌, length, Option
 use Rattle.std.specs.Option.{option_copied}
 use Rattle.json.specs.Json.{Json, null, string}
 use Rattle.link_base.specs.Labels.{name_in}
-use Rattle.link_capture.specs.Told.{Captured}
+use Rattle.link_capture.specs.Meaning.{Captured}
 use Rattle.link_json.specs.Doc.{Field, object_of, number_json, named_json}
 use Rattle.show_captures.specs.Packet.{protocol_in}
 use Rattle.show_captures.specs.Protocol.{protocols}

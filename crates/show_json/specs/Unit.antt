@@ -4,7 +4,7 @@ use Rattle.json.specs.Json.{Json}
 use Rattle.link_capture.specs.declared.event.Time.{Time}
 use Rattle.link_capture.specs.ErrorText.{bytes_text, error_text}
 use Rattle.link_capture.specs.OtherFormat.{format_text}
-use Rattle.link_capture.specs.Told.{Captured}
+use Rattle.link_capture.specs.Meaning.{Captured}
 use Rattle.link_json.specs.Doc.{Field}
 use Rattle.link_json.specs.Message.{document_line}
 use Rattle.link_json.specs.Other.{place_document}

@@ -4,7 +4,7 @@ ghost use Rattle.std.specs.Prelude.{◌≡◌, ◌++◌, ◌∷◌, [], OnOk, co
 ghost use Rattle.link_json.specs.Doc.{fields_tokens};
 ghost use Rattle.show_json.specs.Place.{file_fields, file_of};
 
-use link_json::{Place, Sheet};
+use link_json::{Document, Place};
 use std::alloc::AllocError;
 
 /// JSON documents, each a line. They name the file that they are from, if there is one.
@@ -17,11 +17,11 @@ pub struct Json<'a> {
 impl Place for Json<'_> {
     ghost fields = { λ json. file_fields (file_of json) };
 
-    fn write_fields(&self, sheet: &mut Sheet) -> Result<(), AllocError> {
+    fn write_fields(&self, doc: &mut Document) -> Result<(), AllocError> {
         match self.file {
             Some(name) => {
-                sheet.key("file")?;
-                sheet.string(name)
+                doc.key("file")?;
+                doc.string(name)
             }
             None => Ok(()),
         }

@@ -6,7 +6,7 @@ ghost use Rattle.show_json.specs.Clock.{ShowsClock, clock_json};
 
 use arrayvec::ArrayString;
 use link_capture::Time;
-use link_json::{Sheet, write_number_field};
+use link_json::{Document, write_number_field};
 use show_captures::utc_text;
 use std::alloc::AllocError;
 
@@ -38,18 +38,18 @@ pub(crate) fn clock_of(time: Time) -> Option<Clock>
 }
 
 /// Writes an instant, or null.
-pub(crate) fn write_clock(sheet: &mut Sheet, clock: &Option<Clock>) -> Result<(), AllocError>
-    ensures { OnOk result (sheet.new ≡ sheet.old ++ json_tokens (clock_json clock.now)) }
+pub(crate) fn write_clock(doc: &mut Document, clock: &Option<Clock>) -> Result<(), AllocError>
+    ensures { OnOk result (doc.new ≡ doc.old ++ json_tokens (clock_json clock.now)) }
 {
     match clock {
         Some(clock) => {
-            sheet.begin_object()?;
-            sheet.key("utc")?;
-            sheet.string(clock.utc.as_str())?;
-            write_number_field(sheet, "sec", clock.seconds)?;
-            write_number_field(sheet, "nsec", clock.nanoseconds)?;
-            sheet.end_object()
+            doc.begin_object()?;
+            doc.key("utc")?;
+            doc.string(clock.utc.as_str())?;
+            write_number_field(doc, "sec", clock.seconds)?;
+            write_number_field(doc, "nsec", clock.nanoseconds)?;
+            doc.end_object()
         }
-        None => sheet.null(),
+        None => doc.null(),
     }
 }

@@ -5,7 +5,7 @@ ghost use Rattle.json.specs.Json.{Json};
 ghost use Rattle.link_capture.specs.declared.error.InputError.{InputError};
 ghost use Rattle.link_capture.specs.declared.event.Time.{Time};
 ghost use Rattle.link_capture.specs.declared.other_format.OtherFormat.{OtherFormat};
-ghost use Rattle.link_capture.specs.Told.{Captured};
+ghost use Rattle.link_capture.specs.Meaning.{Captured};
 ghost use Rattle.show_captures.specs.Run.{ShowsInput};
 ghost use Rattle.show_lines.specs.declared.asking.Asked.{Asked};
 ghost use Rattle.show_json.specs.declared.by_json.Json.{Json as Form};

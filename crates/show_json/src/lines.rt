@@ -7,13 +7,13 @@ ghost use Rattle.show_json.specs.Line.{IsDocument, refused_json, answered_json};
 use crate::by_json::Json;
 use crate::places::LinePlace;
 use crate::stops::stopped;
-use link_json::{Sheet, write_check, write_documents, write_fault, write_list_document};
+use link_json::{Document, write_check, write_documents, write_fault, write_list_document};
 use show_lines::{Asked, ShowLines, Stop};
 use std::alloc::Global;
 use std::io::Write;
 
 impl ShowLines for Json<'_> {
-    type Paper = Sheet;
+    type Paper = Document;
 
     ghost refused = { refused_json };
 
@@ -24,7 +24,7 @@ impl ShowLines for Json<'_> {
     fn refuse<W: Write>(
         &self,
         alloc: Global,
-        paper: &mut Sheet,
+        paper: &mut Document,
         number: u64,
         text: Option<&[u8]>,
         reason: &str,
@@ -40,7 +40,7 @@ impl ShowLines for Json<'_> {
     fn answer<W: Write>(
         &self,
         alloc: Global,
-        paper: &mut Sheet,
+        paper: &mut Document,
         number: u64,
         text: &[u8],
         asked: Asked,

@@ -2,7 +2,7 @@
 
 ghost use Rattle.std.specs.Prelude.{◌≡◌, List, ℕ, [], false, IfOk};
 ghost use Rattle.std.specs.Io.KnownBytes.{Appends};
-ghost use Rattle.link_capture.specs.Told.{captured_of};
+ghost use Rattle.link_capture.specs.Meaning.{captured_of};
 ghost use Rattle.show_lines.specs.Pieces.{AddsPieces, IfWritten};
 ghost use Rattle.show_json.specs.Line.{IsDocument};
 ghost use Rattle.show_json.specs.Stop.{breaks_json};
@@ -15,7 +15,7 @@ use crate::places::{PacketPlace, TimePlace};
 use crate::stops::stopped;
 use crate::unopened::finish_with;
 use link_capture::{Bytes, InputError, OtherFormat, Packet, Time};
-use link_json::{Place, Sheet, write_documents, write_fault, write_place};
+use link_json::{Document, Place, write_documents, write_fault, write_place};
 use program::{Watched, end_failed, finish};
 use show_captures::{Carried, ShowUnits, carried_by};
 use show_lines::Stop;
@@ -32,7 +32,7 @@ impl ShowUnits for Json<'_> {
     fn show_packet<W: Write>(
         &self,
         alloc: Global,
-        paper: &mut Sheet,
+        paper: &mut Document,
         number: u64,
         packet: &Packet<'_>,
         writer: &mut W,
@@ -49,7 +49,7 @@ impl ShowUnits for Json<'_> {
     fn show_messages<W: Write>(
         &self,
         alloc: Global,
-        paper: &mut Sheet,
+        paper: &mut Document,
         bytes: &[u8],
         writer: &mut W,
     ) -> Result<bool, Stop> {
@@ -59,7 +59,7 @@ impl ShowUnits for Json<'_> {
     fn show_time<W: Write>(
         &self,
         alloc: Global,
-        paper: &mut Sheet,
+        paper: &mut Document,
         time: Time,
         writer: &mut W,
     ) -> Result<(), Stop> {
@@ -73,7 +73,7 @@ impl ShowUnits for Json<'_> {
     fn show_error<W: Write>(
         &self,
         alloc: Global,
-        paper: &mut Sheet,
+        paper: &mut Document,
         at: u64,
         error: InputError,
         writer: &mut W,
@@ -87,7 +87,7 @@ impl ShowUnits for Json<'_> {
     fn show_format<W: Write>(
         &self,
         alloc: Global,
-        paper: &mut Sheet,
+        paper: &mut Document,
         format: OtherFormat,
         writer: &mut W,
     ) -> Result<(), Stop> {
@@ -100,7 +100,7 @@ impl ShowUnits for Json<'_> {
     fn end<W: Write + Drop>(
         &self,
         alloc: Global,
-        paper: &mut Sheet,
+        paper: &mut Document,
         stop: Stop,
         writer: &mut BufWriter<Watched<W>>,
     ) -> u8 {
@@ -115,7 +115,7 @@ impl ShowUnits for Json<'_> {
 /// Writes the documents of a packet. Returns false if one has an error.
 fn write_carried<P: Place, W: Write>(
     alloc: Global,
-    paper: &mut Sheet,
+    paper: &mut Document,
     place: &P,
     packet: &Packet<'_>,
     writer: &mut W,
@@ -138,7 +138,7 @@ fn write_carried<P: Place, W: Write>(
 /// Writes the error of a packet with so many bytes, too few for its header.
 fn write_short<P: Place, W: Write>(
     alloc: Global,
-    paper: &mut Sheet,
+    paper: &mut Document,
     place: &P,
     length: usize,
     writer: &mut W,

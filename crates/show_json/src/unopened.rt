@@ -7,7 +7,7 @@ ghost use Rattle.show_json.specs.Place.{file_fields, file_of};
 ghost use Rattle.show_json.specs.Stop.{EndsWithFault};
 
 use crate::by_json::Json;
-use link_json::{Failure, Sheet, write_fault};
+use link_json::{Document, Failure, write_fault};
 use program::{Watched, end_failed, finish};
 use std::alloc::Global;
 use std::io::{BufWriter, Write};
@@ -25,13 +25,19 @@ pub fn write_unopened<W: Write + Drop>(
     ensures unfailed { has_failed (writer_inner writer.new) ≡ false → writer_buffer writer.new ≡ [] }
 {
     let json = Json { file: Some(file) };
-    finish_with(alloc, &mut Sheet::new(alloc), &json, "cannot open", writer)
+    finish_with(
+        alloc,
+        &mut Document::new(alloc),
+        &json,
+        "cannot open",
+        writer,
+    )
 }
 
 /// Writes the document of an error that ends an input, and flushes it. Returns the exit status, as [`write_unopened`] does.
 pub(crate) fn finish_with<W: Write + Drop>(
     alloc: Global,
-    paper: &mut Sheet,
+    paper: &mut Document,
     json: &Json<'_>,
     text: &str,
     writer: &mut BufWriter<Watched<W>>,

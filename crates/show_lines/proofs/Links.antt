@@ -14,7 +14,7 @@ use Rattle.link_messages.specs.Lists.{Listed, HasLists}
 use Rattle.link_show.specs.List.{EachShown}
 use Rattle.link_show.proofs.Listing.{each_none, each_more}
 use Rattle.show_lines.specs.List.{Adds, ShowsList}
-use Rattle.show_lines.specs.Messages.{ShowsPart, ShowsParts, ShowsHolder, ShowsMessage, ShowsMessages, ShowsEnd}
+use Rattle.show_lines.specs.Messages.{ShowsPart, ShowsParts, ShowsLists, ShowsMessage, ShowsMessages, ShowsEnd}
 
 -- ---- lists
 
@@ -31,19 +31,19 @@ parts_more indent xs x t u v whole read h k =
 own_first : (family : Family) (list : Stretch) (held lists : List Listed) → lists ≡ (family, list) ∷ held → lists ≡ (family, list) ∷ drop 1 lists
 own_first family list held lists e = e ∙ ap (λ t. (family, list) ∷ t) (sym (ap (drop 1) e))
 
-pub holder_first : (n : ℕ) (context : Context) (family : Family) (list : Stretch) (lists : List Listed) → HasLists n context family list lists → lists ≡ (family, list) ∷ drop 1 lists
-holder_first n context family list lists (held, whole, h, e) = own_first family list held lists e
+pub own_list_first : (n : ℕ) (context : Context) (family : Family) (list : Stretch) (lists : List Listed) → HasLists n context family list lists → lists ≡ (family, list) ∷ drop 1 lists
+own_list_first n context family list lists (held, whole, h, e) = own_first family list held lists e
 
 drop-map : (parts : List Part) → drop 1 (map part_of parts) ≡ map part_of (drop 1 parts)
 drop-map [] = refl
 drop-map (p ∷ parts) = refl
 
 -- a list, and the lists that its attributes hold
-pub holder_shown : (family : Family) (list : Stretch) (parts : List Part) (t u v : List ℕ) (whole read : Bool) → HasLists levels (context_of 0) family list (map part_of parts)
-    → Adds (ShowsList [] list.0 (table_of family) list.1) t u whole → Adds (ShowsParts [] (map part_of (drop 1 parts))) u v read → Adds (ShowsHolder family list) t v (whole && read)
-holder_shown family list parts t u v whole read has h k =
+pub lists_shown : (family : Family) (list : Stretch) (parts : List Part) (t u v : List ℕ) (whole read : Bool) → HasLists levels (context_of 0) family list (map part_of parts)
+    → Adds (ShowsList [] list.0 (table_of family) list.1) t u whole → Adds (ShowsParts [] (map part_of (drop 1 parts))) u v read → Adds (ShowsLists family list) t v (whole && read)
+lists_shown family list parts t u v whole read has h k =
     let first : map part_of parts ≡ (family, list) ∷ map part_of (drop 1 parts) =
-    holder_first levels (context_of 0) family list (map part_of parts) has ∙ ap (λ z. (family, list) ∷ z) (drop-map parts) in (
+    own_list_first levels (context_of 0) family list (map part_of parts) has ∙ ap (λ z. (family, list) ∷ z) (drop-map parts) in (
       h.0 ++ k.0,
       record {
         held = map part_of (drop 1 parts);

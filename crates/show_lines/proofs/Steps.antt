@@ -13,7 +13,7 @@ use Rattle.show_lines.specs.Show.{Shower, numbered, ShowsAll, Ended, Open, IsUnb
 use Rattle.show_lines.specs.Progress.{Shown, Goes, held_of, most_held, WritesLine, WritesPiece, WritesRest}
 use Rattle.show_lines.specs.Run.{Runs}
 use Rattle.show_lines.proofs.Cuts.{all_append, take_twice}
-use Rattle.show_lines.proofs.Kept.{IsToldByHeld}
+use Rattle.show_lines.proofs.Kept.{DependsOnHeld}
 
 -- the part of a piece that stands before the rest was shown
 pub record Fed (shows : Shower) (before after : ℕ × List ℕ) (piece rest : List ℕ) (w v : Option (List ℕ)) (all : Bool) : Type 0 where
@@ -42,8 +42,8 @@ module _ {shows : Shower} where
       → EachShown shows (numbered 1 (lines ++ text ∷ [])) (out ++ written) (whole && read)
   line_more lines out n text written whole read e s h =
       let number : 1 + length lines ≡ n = omega (arith, e) in
-      let spelled = numbered_more 1 lines text ∙ ap (λ k. numbered 1 lines ++ (k, text) ∷ []) number in
-      subst (λ xs. EachShown shows xs (out ++ written) (whole && read)) (sym spelled) (each_more shows (numbered 1 lines) out (n, text) written whole read s h)
+      let lines_are = numbered_more 1 lines text ∙ ap (λ k. numbered 1 lines ++ (k, text) ∷ []) number in
+      subst (λ xs. EachShown shows xs (out ++ written) (whole && read)) (sym lines_are) (each_more shows (numbered 1 lines) out (n, text) written whole read s h)
 
   -- ---- a piece of a text
 
@@ -62,21 +62,21 @@ module _ {shows : Shower} where
       }
 
   -- bytes without LF, and then LF
-  goes_over : IsToldByHeld shows → (before after : ℕ × List ℕ) (piece written : List ℕ) (read : Bool) → IsUnbroken piece → shows (before.0, held_of (before.1 ++ piece)) written read → after ≡ (suc before.0, []) → Goes shows before after (line piece) written read
-  goes_over told before after piece written read solid h next text out whole s =
+  goes_over : DependsOnHeld shows → (before after : ℕ × List ℕ) (piece written : List ℕ) (read : Bool) → IsUnbroken piece → shows (before.0, held_of (before.1 ++ piece)) written read → after ≡ (suc before.0, []) → Goes shows before after (line piece) written read
+  goes_over depends before after piece written read solid h next text out whole s =
       let full = s.current ++ piece in
       let joined : held_of (before.1 ++ piece) ≡ held_of full = ap (λ t. held_of (t ++ piece)) s.is_held ∙ take_twice most_held s.current piece in
-      let spelled = flat_map-append line s.lines (full ∷ []) ∙ ap (λ l. flat_map line s.lines ++ l) (append-nil (line full)) in
+      let lines_are = flat_map-append line s.lines (full ∷ []) ∙ ap (λ l. flat_map line s.lines ++ l) (append-nil (line full)) in
       record {
         lines = s.lines ++ full ∷ [];
         current = [];
         cut = ap (λ t. t ++ line piece) s.cut ∙ append_assoc (flat_map line s.lines) s.current (line piece) ∙ ap (λ t. flat_map line s.lines ++ t) (sym (append_assoc s.current piece (10 ∷ [])))
-            ∙ sym (append-nil (flat_map line (s.lines ++ full ∷ [])) ∙ spelled);
+            ∙ sym (append-nil (flat_map line (s.lines ++ full ∷ [])) ∙ lines_are);
         unbroken = all_append IsUnbroken s.lines (full ∷ []) s.unbroken (all_append (λ b. b ≢ 10) s.current piece s.open_end solid, tt);
         open_end = tt;
         counted = omega (arith, ap (λ (h : ℕ × List ℕ). h.0) next, s.counted, length-append s.lines (full ∷ []));
         is_held = ap (λ (h : ℕ × List ℕ). h.1) next;
-        shown = line_more s.lines out before.0 full written whole read s.counted s.shown (told before.0 full written read (subst (λ t. shows (before.0, t) written read) joined h));
+        shown = line_more s.lines out before.0 full written whole read s.counted s.shown (depends before.0 full written read (subst (λ t. shows (before.0, t) written read) joined h));
       }
 
   -- two pieces
@@ -100,13 +100,13 @@ module _ {shows : Shower} where
       }
 
   -- the last line lacks its LF
-  ends_open : IsToldByHeld shows → (text out : List ℕ) (held : ℕ × List ℕ) (written : List ℕ) (whole read : Bool) → Shown shows text out held whole → held.1 ≢ [] → shows held written read → ShowsAll shows text (out ++ written) (whole && read)
-  ends_open told text out held written whole read s some h =
+  ends_open : DependsOnHeld shows → (text out : List ℕ) (held : ℕ × List ℕ) (written : List ℕ) (whole read : Bool) → Shown shows text out held whole → held.1 ≢ [] → shows held written read → ShowsAll shows text (out ++ written) (whole && read)
+  ends_open depends text out held written whole read s some h =
       let len : 0 < length s.current = omega (arith, some_bytes held.1 some, ap length s.is_held, length-take most_held s.current) in
       record {
         lines = s.lines ++ s.current ∷ [];
         cut = Open s.lines s.current s.unbroken s.open_end len refl s.cut;
-        shown = line_more s.lines out held.0 s.current written whole read s.counted s.shown (told held.0 s.current written read (subst (λ t. shows (held.0, t) written read) s.is_held h));
+        shown = line_more s.lines out held.0 s.current written whole read s.counted s.shown (depends held.0 s.current written read (subst (λ t. shows (held.0, t) written read) s.is_held h));
       }
 
   -- ---- the lines of a piece
@@ -115,12 +115,12 @@ module _ {shows : Shower} where
   fed_none held piece w = record { done = []; cut = refl; wrote = ([], λ text out whole s. rw (append-nil text, append-nil out, and_true whole) s, Appends-nil w) }
 
   -- one more line
-  pub fed_line : IsToldByHeld shows → (before held after : ℕ × List ℕ) (piece rest front behind : List ℕ) (w v u : Option (List ℕ)) (all read : Bool) → Fed shows before held piece rest w v all → rest ≡ line front ++ behind → IsUnbroken front
+  pub fed_line : DependsOnHeld shows → (before held after : ℕ × List ℕ) (piece rest front behind : List ℕ) (w v u : Option (List ℕ)) (all read : Bool) → Fed shows before held piece rest w v all → rest ≡ line front ++ behind → IsUnbroken front
       → WritesLine shows (held.0, held_of (held.1 ++ front)) v u read → after ≡ (suc held.0, []) → Fed shows before after piece behind w u (all && read)
-  fed_line told before held after piece rest front behind w v u all read s e solid h next = record {
+  fed_line depends before held after piece rest front behind w v u all read s e solid h next = record {
     done = s.done ++ line front;
     cut = s.cut ∙ ap (λ t. s.done ++ t) e ∙ sym (append_assoc s.done (line front) behind);
-    wrote = writes_both before held after s.done (line front) w v u all read s.wrote (h.0, goes_over told held after front h.0 read solid h.1 next, h.2);
+    wrote = writes_both before held after s.done (line front) w v u all read s.wrote (h.0, goes_over depends held after front h.0 read solid h.1 next, h.2);
   }
 
   -- the rest has no LF
@@ -145,8 +145,8 @@ module _ {shows : Shower} where
   }
 
   -- the end
-  pub went_all : IsToldByHeld shows → (first : List ℕ) (held : ℕ × List ℕ) (r s t w v u : Option (List ℕ)) (whole all : Bool) → Went shows first held r s w v whole → Consumes s t [] → IsAtEnd t → WritesRest shows held whole v u all → Runs shows first r t w u all
-  went_all told first held r s t w v u whole all g c end h = ended h
+  pub went_all : DependsOnHeld shows → (first : List ℕ) (held : ℕ × List ℕ) (r s t w v u : Option (List ℕ)) (whole all : Bool) → Went shows first held r s w v whole → Consumes s t [] → IsAtEnd t → WritesRest shows held whole v u all → Runs shows first r t w u all
+  went_all depends first held r s t w v u whole all g c end h = ended h
     where
       out : List ℕ
       out = g.wrote.0
@@ -165,7 +165,7 @@ module _ {shows : Shower} where
         out = out ++ last.0;
         read = read;
         end = end;
-        shown = subst (ShowsAll shows (first ++ g.text) (out ++ last.0)) (sym same) (ends_open told (first ++ g.text) out held last.0 whole well shown some last.1);
+        shown = subst (ShowsAll shows (first ++ g.text) (out ++ last.0)) (sym same) (ends_open depends (first ++ g.text) out held last.0 whole well shown some last.1);
         written = Appends-trans w v u out last.0 g.wrote.2 last.2;
       }
 

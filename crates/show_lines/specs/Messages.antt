@@ -39,7 +39,7 @@ abbrev pub ShowsParts : List ℕ → List Listed → List ℕ → Bool → Type 
 ShowsParts indent = EachShown (ShowsPart indent)
 
 -- that for a list, and behind it that for the lists that its attributes hold
-pub record ShowsHolder (family : Family) (list : Stretch) (out : List ℕ) (whole : Bool) : Type 0 where
+pub record ShowsLists (family : Family) (list : Stretch) (out : List ℕ) (whole : Bool) : Type 0 where
   pub held : List Listed
   pub lists : HasLists levels (context_of 0) family list ((family, list) ∷ held)
   pub own : List ℕ

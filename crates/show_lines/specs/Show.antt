@@ -12,7 +12,7 @@ use Rattle.netlink_packet_route.specs.Report.{line, most_text}
 use Rattle.show_lines.specs.declared.asking.Asked.{Asked}
 use Rattle.show_lines.specs.declared.asking.Asked.TheVariants.{Messages, Attributes, Verdict}
 pub use Rattle.show_lines.specs.List.{IsUnbroken}
-use Rattle.show_lines.specs.Messages.{ShowsMessages, ShowsHolder}
+use Rattle.show_lines.specs.Messages.{ShowsMessages, ShowsLists}
 use Rattle.show_lines.specs.declared.arguments.Options.{Options}
 use Rattle.show_lines.specs.declared.arguments.Format.{Format}
 use Rattle.show_lines.specs.declared.arguments.Format.TheVariants.{Plain, Debug}
@@ -86,7 +86,7 @@ Form = Asked → List ℕ → List ℕ → Bool → Type 0
 -- as Rust's `Debug` prints values
 abbrev pub ShowsDebug : Form
 ShowsDebug Messages bytes = ShowsMessages bytes
-ShowsDebug (Attributes family) bytes = ShowsHolder family (0, bytes)
+ShowsDebug (Attributes family) bytes = ShowsLists family (0, bytes)
 ShowsDebug (Verdict family) bytes = ShowsVerdict true [] 0 (table_of family) bytes
 
 -- as people read values

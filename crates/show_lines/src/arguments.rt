@@ -79,7 +79,7 @@ pub fn parse(alloc: Global, arguments: &Vec<String>) -> Result<Request, AllocErr
     ensures asked { IfOk result (Asks (map string_bytes arguments.now.items)) }
 {
     match command(alloc)?.try_get_matches_from(arguments.as_slice()) {
-        Ok(matches) => settled(
+        Ok(matches) => request_for(
             alloc,
             chosen(&matches),
             lines_in(&matches),
@@ -92,7 +92,7 @@ pub fn parse(alloc: Global, arguments: &Vec<String>) -> Result<Request, AllocErr
 
 /// Returns the request for this run, or for a wrong argument: only the plain form has `--check`
 /// and `--brief`.
-fn settled(
+fn request_for(
     alloc: Global,
     form: Form,
     lines: LineOptions,

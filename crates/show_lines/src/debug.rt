@@ -10,7 +10,7 @@ ghost use Rattle.show_lines.specs.Progress.{WritesAnswer};
 use crate::asking::Asked;
 use crate::by_options::write_below;
 use crate::messages::push_messages;
-use crate::parts::push_holder;
+use crate::parts::push_lists;
 use crate::plain::write_plain;
 use crate::running::Stop;
 use link_messages::Payload;
@@ -39,7 +39,7 @@ pub(crate) fn write_debug<W: Write>(
         }
         Asked::Attributes(family) => {
             let payload = Payload { at: 0, bytes };
-            let read = push_holder(alloc, &mut below, family, payload);
+            let read = push_lists(alloc, &mut below, family, payload);
             write_pushed(writer, text, read, below.as_str())
         }
         Asked::Verdict(_) => write_plain(writer, text, asked, LineOptions::default(), bytes),

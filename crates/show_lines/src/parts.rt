@@ -4,7 +4,7 @@ ghost use Rattle.std.specs.Prelude.{◌≡◌, ◌++◌, map, IfOk, OnOk, string
 ghost use Rattle.link_messages.specs.Finding.{stretch_of};
 ghost use Rattle.link_messages.specs.Link.{part_of};
 ghost use Rattle.show_lines.specs.List.{Adds};
-ghost use Rattle.show_lines.specs.Messages.{ShowsHolder, ShowsParts, ShowsPart, part_line};
+ghost use Rattle.show_lines.specs.Messages.{ShowsLists, ShowsParts, ShowsPart, part_line};
 
 use crate::lists::push_list;
 use link_messages::{Part, Payload, lists_of};
@@ -13,13 +13,13 @@ use std::alloc::{AllocError, Global};
 use std::fmt::Write;
 
 /// Appends the lines of a list, and behind them those of each list that its attributes hold. Returns whether all decode.
-pub(crate) fn push_holder(
+pub(crate) fn push_lists(
     alloc: Global,
     text: &mut String,
     family: Family,
     list: Payload<'_>,
 ) -> Result<bool, AllocError>
-    ensures { IfOk result (Adds (ShowsHolder family (stretch_of list.entry)) (string_bytes text.old) (string_bytes text.new)) }
+    ensures { IfOk result (Adds (ShowsLists family (stretch_of list.entry)) (string_bytes text.old) (string_bytes text.new)) }
 {
     let lists = lists_of(alloc, family, list)?;
     let own = Part {

@@ -7,9 +7,9 @@ use Rattle.std.proofs.lemmas.List.{take_at, take-append-drop}
 use Rattle.std.proofs.lemmas.Bool.{cond-false, ltb-false, le-ltb}
 use Rattle.netlink_packet_route.proofs.Rewritten.{none_unfit, begins}
 use Rattle.netlink_packet_route.specs.Answers.{ListFaultUnless, OnListMemory, OnRewriteMemory}
-use Rattle.netlink_packet_route.specs.Frame.{Frame, AreFrames, IsFrame, IsComplete, spelled, frame_fault}
+use Rattle.netlink_packet_route.specs.Frame.{Frame, AreFrames, IsFrame, IsComplete, encoded, frame_fault}
 use Rattle.netlink_packet_route.specs.Number.{number}
-use Rattle.netlink_packet_route.specs.Rewrite.{RewriteAnswers, Settles}
+use Rattle.netlink_packet_route.specs.Rewrite.{RewriteAnswers, Converges}
 use Rattle.netlink_packet_route.specs.Table.{Table, AttrValue, Decodes, Fits, Gives, Rewriting, written_list}
 use Rattle.netlink_packet_route.specs.Wire.{Reading, FrameGives, Wire, Reads, FirstFault}
 use Rattle.netlink_packet_route.specs.declared.link.Cause.{Cause}
@@ -32,13 +32,13 @@ abbrev pub OneReading : Type 0
 OneReading = (table : Table) (s : List ℕ) (q r : Result (List AttrValue) (ℕ × DecodeFault))
     → Reads (Gives table) s q → Reads (Gives table) s r → q ≡ r
 
--- a string that settles is refused for want of memory alone
-pub settled : (table : Table) (s t : List ℕ) (e : RewriteError)
-    → OneReading → Settles table t → RewriteAnswers table t (Err e) → RewriteAnswers table s (Err e)
-settled table s t (errors.Memory e) only h a = tt
-settled table s t (errors.Fault at fault) only h a =
+-- a string that converges is refused for want of memory alone
+pub converged : (table : Table) (s t : List ℕ) (e : RewriteError)
+    → OneReading → Converges table t → RewriteAnswers table t (Err e) → RewriteAnswers table s (Err e)
+converged table s t (errors.Memory e) only h a = tt
+converged table s t (errors.Fault at fault) only h a =
     absurd (apart h.is.values (at, fault) (Ok h.is.values) refl (only table t (Ok h.is.values) (Err (at, fault)) h.is.wire a))
-settled table s t (errors.TooLong i) only h a =
+converged table s t (errors.TooLong i) only h a =
     let same : h.is.values ≡ a.0 = one_value h.is.values a.0 (Ok h.is.values) refl (only table t (Ok h.is.values) (Ok a.0) h.is.wire a.1) in
     let fit : AllByRecursion Fits a.0 = subst (AllByRecursion Fits) same h.is.fit in
     absurd (none_unfit a.0 i fit a.2)
@@ -97,7 +97,7 @@ values_of gives (x ∷ xs) each = let rest = values_of gives xs each.1 in (each.
 front_decodes : (table : Table) (s : List ℕ) (at : ℕ) (fault : DecodeFault) → FirstFault (Gives table) s at fault → Decodes table (take at s)
 front_decodes table s at fault f =
     let values = values_of (Gives table) f.front f.values in
-    let string : take at s ≡ spelled f.front = ap (take at) f.string ∙ take_at (spelled f.front) f.rest at (sym f.offset) in
+    let string : take at s ≡ encoded f.front = ap (take at) f.string ∙ take_at (encoded f.front) f.rest at (sym f.offset) in
     record {
       values = values.0;
       wire = record { frames = f.front; string = record { frames = are_frames f.front f.complete; string = string }; values = values.1 };

@@ -7,10 +7,9 @@ ghost use Rattle.netlink_packet_route.specs.Wire.{FirstFault};
 ghost use Rattle.uses.specs.Ipoib.{ipoib_table, ipoib_means};
 ghost use Rattle.uses.specs.Reading.{IsLastNumber};
 
-use netlink_packet_route::implementing::by_rows::{self, AttributeRows, RowVisitor};
+use netlink_packet_route::implementing::by_rows::{AttributeRows, RowVisitor};
 use netlink_packet_route::implementing::{
-    Attribute, DecodeError, DecodeFault, DefaultNla, KindLabel, Meaning, Nla, NlaBuffer, Parseable,
-    Place, TryClone,
+    Attribute, DecodeError, DefaultNla, Meaning, Nla, NlaBuffer, Parseable, Place, TryClone,
 };
 use netlink_packet_route::link::ListFault;
 use netlink_packet_route::views::view_list;
@@ -89,19 +88,6 @@ impl Attribute for InfoIpoib {
     ghost use Rattle.link_base.proofs.TableLaws.{lawful};
     ghost use Rattle.netlink_packet_route.specs.Equality.{of_cases, thorough_fields};
     ghost use Rattle.uses.specs.contracts.ipoib.InfoIpoib.{enum};
-
-    fn check(buffer: &NlaBuffer<'_>) -> Result<(), DecodeFault> {
-        by_rows::check::<Self>(buffer)
-    }
-
-    #[inline(always)]
-    fn label(list: Option<u16>, kind: u16) -> Option<KindLabel> {
-        by_rows::label::<Self>(list, kind)
-    }
-
-    fn canonical(buffer: &NlaBuffer<'_>) -> bool {
-        by_rows::canonical::<Self>(buffer)
-    }
 
     ghost lawful = { lawful ipoib_table };
 

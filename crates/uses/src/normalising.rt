@@ -36,7 +36,7 @@ pub fn normalised(
 /// # Errors
 ///
 /// As for `rewrite`.
-#[tactic(auto, using(crate::proofs::Fitting::settled, crate::proofs::Fitting::starts))]
+#[tactic(auto, using(crate::proofs::Fitting::converged, crate::proofs::Fitting::starts))]
 pub fn canonical(alloc: Global, family: Family, bytes: &[u8]) -> Result<Vec<u8>, RewriteError>
     ensures canonical { IfOk result (λ out. Canonical (table_of family) out.items) }
     ensures second { IfOk result (λ out. (once : List ℕ)

@@ -10,13 +10,13 @@ use netlink_packet_route::link::{
     BridgeMode, BridgeMulticastRouterType, BridgePortState, BridgeQuerierState, BridgeStpMode,
     BridgeStpState, BridgeVlanInfo, BridgeVlanInfoFlags, BridgeVlanTunnelInfo, CanBerrCounter,
     CanBitTiming, CanBitTimingConst, CanClock, CanCtrlMode, CanCtrlModeExt, CanCtrlModeFlags,
-    CanTdc, Cause, ChurnState, DecodeError, DecodeFault, DefaultNla, FrameTable, HsrProtocol,
-    InfoBond, InfoBondPort, InfoBridge, InfoBridgePort, InfoCan, InfoDsa, InfoGeneve, InfoHsr,
-    InfoIpVlan, InfoMacVlan, InfoNetkit, InfoTun, InfoVeth, InfoVlan, InfoVrf, InfoVrfPort,
-    InfoVxlan, LacpState, LinkAttribute, LinkProtoInfoBridge, ListError, MacVlanAddress, MiiStatus,
-    NlaBuffer, NlasIterator, Peer, ReplyAttribute, TryClone, VecAfSpecBridge,
-    VecLinkProtoInfoBridge, VlanFlags, VlanProtocol, VlanQosMapping, VxlanHeader, VxlanPortRange,
-    WriteError,
+    CanTdc, Cause, ChurnState, DecodeError, DecodeFault, DefaultNla, FrameTable, GenevePortRange,
+    HsrProtocol, InfoBond, InfoBondPort, InfoBridge, InfoBridgePort, InfoCan, InfoDsa, InfoGeneve,
+    InfoHsr, InfoIpVlan, InfoMacVlan, InfoNetkit, InfoTun, InfoVeth, InfoVlan, InfoVrf,
+    InfoVrfPort, InfoVxlan, LacpState, LinkAttribute, LinkProtoInfoBridge, ListError,
+    MacVlanAddress, MiiStatus, NlaBuffer, NlasIterator, Peer, ReplyAttribute, TryClone,
+    VecAfSpecBridge, VecLinkProtoInfoBridge, VlanFlags, VlanProtocol, VlanQosMapping, VxlanHeader,
+    VxlanPortRange, WriteError,
 };
 use netlink_packet_route::{Family, RewriteError};
 use std::alloc::AllocError;
@@ -226,7 +226,7 @@ fn geneve(value: &InfoGeneve) {
         InfoGeneve::Remote6(it) => is::<Ipv6Addr>(it),
         InfoGeneve::Ttl(it) | InfoGeneve::Tos(it) | InfoGeneve::Df(it) => is::<u8>(it),
         InfoGeneve::Port(it) => is::<u16>(it),
-        InfoGeneve::PortRange(it) => is::<VxlanPortRange>(it),
+        InfoGeneve::PortRange(it) => is::<GenevePortRange>(it),
         InfoGeneve::UdpCsum(it) | InfoGeneve::UdpZeroCsum6Tx(it) => is::<bool>(it),
         InfoGeneve::UdpZeroCsum6Rx(it) | InfoGeneve::TtlInherit(it) => is::<bool>(it),
         InfoGeneve::CollectMetadata | InfoGeneve::InnerProtoInherit => {}
@@ -389,6 +389,11 @@ fn can_structs(mode: &CanCtrlMode, clock: &CanClock, counter: &CanBerrCounter) {
 
 fn port_range(range: &VxlanPortRange) {
     let VxlanPortRange { low, high } = range;
+    is::<[&u16; 2]>(&[low, high]);
+}
+
+fn geneve_port_range(range: &GenevePortRange) {
+    let GenevePortRange { low, high } = range;
     is::<[&u16; 2]>(&[low, high]);
 }
 
@@ -573,6 +578,7 @@ fn traits() {
     is_cloned::<CanBerrCounter>();
     is_copied::<VxlanPortRange>();
     is_copied::<VxlanHeader>();
+    is_copied::<GenevePortRange>();
     is_compared::<CanBitTimingConst>();
     is_compared::<VecAfSpecBridge>();
     is_compared::<VecLinkProtoInfoBridge>();

@@ -3,7 +3,7 @@
 ghost use Rattle.std.specs.Prelude.{◌≡◌, ◌≢◌, ◌≤◌, ◌<◌, ◌^◌, ◌++◌, ◌∷◌, [], ℕ, List, length, map, Some, None, IsTrue, refl};
 ghost use Rattle.std.specs.Prelude.{◌+◌, ◌/◌, nat_lt, MatchOption, vec_len, vec_capacity};
 ghost use Rattle.std.specs.List.{AllByRecursion};
-ghost use Rattle.link_base.specs.Frame.{frame_fault, spelled, max_payload};
+ghost use Rattle.link_base.specs.Frame.{frame_fault, bytes_of_frames, max_payload};
 ghost use Rattle.link_base.specs.Table.{Case, Listed, Addresses, ShapeGives, addresses_from, of_length};
 ghost use Rattle.link_base.specs.Held.{IsOctets};
 ghost use Rattle.link_base.specs.Answers.{Answers, OnMemory, capped};
@@ -202,7 +202,7 @@ fn keep<A: Address>(addresses: &mut Vec<A>, payload: &[u8])
 
 /// Returns the length of a written list of addresses in bytes; saturates at `usize::MAX`.
 pub fn addresses_len<A: Address>(addresses: &[A]) -> usize
-    ensures { result ≡ capped (length (spelled (addresses_from 0 (map A.octets addresses.now)))) }
+    ensures { result ≡ capped (length (bytes_of_frames (addresses_from 0 (map A.octets addresses.now)))) }
 {
     addresses.len().saturating_mul(total_size(A::SIZE))
 }
@@ -210,9 +210,9 @@ pub fn addresses_len<A: Address>(addresses: &[A]) -> usize
 /// Writes addresses as elements with the attribute types 0, 1, 2 and so on. `buffer` must be exactly
 /// `addresses_len(addresses)` bytes long, which must be at most 65531.
 pub fn emit_addresses<A: Address>(addresses: &[A], buffer: &mut [u8])
-    requires fits { length (spelled (addresses_from 0 (map A.octets addresses.now))) ≤ max_payload }
-    requires exact { length buffer.old ≡ length (spelled (addresses_from 0 (map A.octets addresses.now))) }
-    ensures written { buffer.new ≡ spelled (addresses_from 0 (map A.octets addresses.now)) }
+    requires fits { length (bytes_of_frames (addresses_from 0 (map A.octets addresses.now))) ≤ max_payload }
+    requires exact { length buffer.old ≡ length (bytes_of_frames (addresses_from 0 (map A.octets addresses.now))) }
+    ensures written { buffer.new ≡ bytes_of_frames (addresses_from 0 (map A.octets addresses.now)) }
     ensures in_range { AllByRecursion (IsOctets A.SIZE) (map A.octets addresses.now) }
 {
     let mut at = 0usize;

@@ -33,7 +33,7 @@ impl<W: Word> FixedSize for Be<W> {
 
     ghost fixed = { refl };
 
-    ghost told = { λ value. Raw (bytes_be (bytes_in W.WIDTH) (W.value value)) };
+    ghost means = { λ value. Raw (bytes_be (bytes_in W.WIDTH) (W.value value)) };
 
     #[inline]
     fn names() -> &'static [Name] {
@@ -82,7 +82,7 @@ where
 
     ghost fixed = { refl };
 
-    ghost told = { λ flags. Raw (bytes_be (bytes_in F.Bits.WIDTH) (F.set_of flags)) };
+    ghost means = { λ flags. Raw (bytes_be (bytes_in F.Bits.WIDTH) (F.set_of flags)) };
 
     #[inline]
     fn names() -> &'static [Name] {

@@ -51,7 +51,7 @@ where
 
     ghost fixed = { refl };
 
-    ghost told = { λ value. Number (bytes_in N.Number.WIDTH) (N.Number.value value) };
+    ghost means = { λ value. Number (bytes_in N.Number.WIDTH) (N.Number.value value) };
 
     #[inline]
     fn names() -> &'static [Name] {
@@ -103,7 +103,7 @@ where
 
     ghost fixed = { refl };
 
-    ghost told = { λ value. Number (bytes_in N.Number.WIDTH) (N.Number.value value) };
+    ghost means = { λ value. Number (bytes_in N.Number.WIDTH) (N.Number.value value) };
 
     #[inline]
     fn names() -> &'static [Name] {

@@ -18,22 +18,22 @@ pub trait FieldList {
     ghost classes: { List Class };
 
     /// What each value represents.
-    ghost told: { Self.Values → List Value };
+    ghost means: { Self.Values → List Value };
 
     /// Returns what the fields at the front of `bytes` hold.
     fn load(bytes: &[u8]) -> Self::Values
         requires { total Self.classes ≤ length bytes.now }
-        ensures { Self.told result ≡ values_along Self.classes bytes.now };
+        ensures { Self.means result ≡ values_along Self.classes bytes.now };
 
     /// States that the written fields have as many bytes as their classes say. It has no effect.
     fn sized(values: &Self::Values)
-        ensures { length (packed (Self.told values.now)) ≡ total Self.classes };
+        ensures { length (packed (Self.means values.now)) ≡ total Self.classes };
 
     /// Writes the fields. `buffer` must be exactly as long as they are.
     fn store(values: &Self::Values, buffer: &mut [u8])
         requires { length buffer.old ≡ total Self.classes }
-        ensures written { buffer.new ≡ packed (Self.told values.now) }
-        ensures in_range { IsBytes (packed (Self.told values.now)) };
+        ensures written { buffer.new ≡ packed (Self.means values.now) }
+        ensures in_range { IsBytes (packed (Self.means values.now)) };
 }
 
 impl FieldList for () {
@@ -41,7 +41,7 @@ impl FieldList for () {
 
     ghost classes = { [] };
 
-    ghost told = { λ _. [] };
+    ghost means = { λ _. [] };
 
     #[inline(always)]
     fn load(_bytes: &[u8]) {}
@@ -58,7 +58,7 @@ impl<C: FixedSize, R: FieldList> FieldList for (C, R) {
 
     ghost classes = { class_by C.FORM C.names ∷ R.classes };
 
-    ghost told = { λ values. C.told values.0 ∷ R.told values.1 };
+    ghost means = { λ values. C.means values.0 ∷ R.means values.1 };
 
     #[inline(always)]
     #[tactic(auto, using(crate::proofs::ClassLemmas::at_size))]

@@ -9,10 +9,9 @@ ghost use Rattle.link_base.specs.Labels.{names_in};
 
 use crate::classes::payload_class::PayloadClass;
 use crate::lists::canonical::is_fixed;
-use crate::rows::default_nla::DefaultNla;
 use crate::rows::fields::Field;
 use crate::rows::form::Form;
-use crate::rows::label::Name;
+use crate::rows::label::{KindLabel, Name};
 use crate::wire::buffer::NlaBuffer;
 use crate::wire::fault::{DecodeError, DecodeFault};
 use std::alloc::{AllocError, Global};
@@ -34,7 +33,7 @@ pub trait FixedSize {
     ghost fixed: { is_fixed FORM ≡ true };
 
     /// What a value represents.
-    ghost told: { Self.Value → Value };
+    ghost means: { Self.Value → Value };
 
     /// Returns the names of the numbers of an enum, or of the bits of a set of flags.
     fn names() -> &'static [Name]
@@ -43,24 +42,22 @@ pub trait FixedSize {
     /// Returns the value of a payload, whose length must be accepted.
     fn load(payload: &[u8]) -> Self::Value
         requires { length_cause (extent (class_by Self.FORM Self.names)) (length payload.now) ≡ None }
-        ensures { Self.told result ≡ meant (class_by Self.FORM Self.names) payload.now };
+        ensures { Self.means result ≡ meant (class_by Self.FORM Self.names) payload.now };
 
     /// Returns the length of the written payload in bytes.
     fn len(value: &Self::Value) -> usize
-        ensures written { result ≡ length (written (Self.told value.now)) }
+        ensures written { result ≡ length (written (Self.means value.now)) }
         ensures size { result ≡ size_of (extent (class_by Self.FORM Self.names)) };
 
     /// Writes the payload. `buffer` must be exactly `len(value)` bytes long.
     fn store(value: &Self::Value, buffer: &mut [u8])
-        requires { length buffer.old ≡ length (written (Self.told value.now)) }
-        ensures written { buffer.new ≡ written (Self.told value.now) }
-        ensures in_range { IsInRange (class_by Self.FORM Self.names) (Self.told value.now) };
+        requires { length buffer.old ≡ length (written (Self.means value.now)) }
+        ensures written { buffer.new ≡ written (Self.means value.now) }
+        ensures in_range { IsInRange (class_by Self.FORM Self.names) (Self.means value.now) };
 }
 
 impl<F: FixedSize> PayloadClass for F {
     type Value = F::Value;
-
-    type Element = DefaultNla;
 
     const FORM: Form = <F as FixedSize>::FORM;
 
@@ -70,9 +67,12 @@ impl<F: FixedSize> PayloadClass for F {
 
     ghost names = { F.names };
 
-    ghost content = { λ value. Single (F.told value) };
+    ghost content = { λ value. Single (F.means value) };
 
-    fn elements() {}
+    #[inline(always)]
+    fn element_label(_kind: u16) -> Option<KindLabel> {
+        None
+    }
 
     #[inline]
     fn names() -> &'static [Name] {

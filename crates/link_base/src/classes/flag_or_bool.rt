@@ -9,10 +9,9 @@ use crate::classes::lengths::Lengths;
 use crate::classes::payload_class::PayloadClass;
 use crate::classes::scalars::emit_u8;
 use crate::lists::canonical::is_flag_or_bool;
-use crate::rows::default_nla::DefaultNla;
 use crate::rows::fields::Field;
 use crate::rows::form::Form;
-use crate::rows::label::Name;
+use crate::rows::label::{KindLabel, Name};
 use crate::wire::buffer::NlaBuffer;
 use crate::wire::fault::{DecodeError, DecodeFault};
 use std::alloc::{AllocError, Global};
@@ -20,8 +19,6 @@ use std::alloc::{AllocError, Global};
 /// A flag: no byte, or a boolean. The value is `None` for an empty payload: the flag is set by being there.
 impl PayloadClass for Option<bool> {
     type Value = Option<bool>;
-
-    type Element = DefaultNla;
 
     const FORM: Form = Form::FlagOrBool;
 
@@ -31,7 +28,10 @@ impl PayloadClass for Option<bool> {
 
     ghost content = { λ flag. Single (flag_value flag) };
 
-    fn elements() {}
+    #[inline(always)]
+    fn element_label(_kind: u16) -> Option<KindLabel> {
+        None
+    }
 
     #[inline]
     fn names() -> &'static [Name] {

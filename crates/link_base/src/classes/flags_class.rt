@@ -40,7 +40,7 @@ where
 
     ghost fixed = { refl };
 
-    ghost told = { λ flags. Number (bytes_in F.Bits.WIDTH) (F.set_of flags) };
+    ghost means = { λ flags. Number (bytes_in F.Bits.WIDTH) (F.set_of flags) };
 
     #[inline]
     fn names() -> &'static [Name] {
@@ -81,7 +81,7 @@ impl<F: FlagSet + Flags<Bits = u32> + Copy + Eq> FixedSize for MaskedFlags<F> {
 
     ghost fixed = { refl };
 
-    ghost told = { λ masked. Raw (octets_of 4 (F.set_of masked.0 ∷ F.set_of masked.1 ∷ [])) };
+    ghost means = { λ masked. Raw (octets_of 4 (F.set_of masked.0 ∷ F.set_of masked.1 ∷ [])) };
 
     #[inline]
     fn names() -> &'static [Name] {
@@ -121,7 +121,7 @@ impl<F: FlagSet + Flags<Bits = u8> + Copy + Eq> FixedSize for LowFlagBits<F> {
 
     ghost fixed = { refl };
 
-    ghost told = { λ flags. LowByte (F.set_of flags) };
+    ghost means = { λ flags. LowByte (F.set_of flags) };
 
     #[inline]
     fn names() -> &'static [Name] {

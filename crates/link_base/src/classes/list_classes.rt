@@ -15,10 +15,9 @@ use crate::classes::number_lists::{ArrayWord, emit_numbers, numbers_len, parse_n
 use crate::classes::payload_class::PayloadClass;
 use crate::lists::canonical::{are_numbers, is_address_list, is_bytes, is_nested};
 use crate::lists::checking::{check_elements, check_nested};
-use crate::rows::default_nla::DefaultNla;
 use crate::rows::fields::Field;
 use crate::rows::form::{Form, Look};
-use crate::rows::label::Name;
+use crate::rows::label::{KindLabel, Name};
 use crate::rows::nested::{NestedAttribute, emit_nested, nested_len, read_nested};
 use crate::rows::try_clone::{TryClone, try_clone_list};
 use crate::wire::buffer::NlaBuffer;
@@ -29,8 +28,6 @@ use std::marker::PhantomData;
 impl PayloadClass for Vec<u8> {
     type Value = Vec<u8>;
 
-    type Element = DefaultNla;
-
     const FORM: Form = Form::Bytes(Look::Address);
 
     ghost FORM = { forms.Bytes looks.Address };
@@ -39,7 +36,10 @@ impl PayloadClass for Vec<u8> {
 
     ghost content = { λ bytes. Single (Raw bytes.items) };
 
-    fn elements() {}
+    #[inline(always)]
+    fn element_label(_kind: u16) -> Option<KindLabel> {
+        None
+    }
 
     #[inline]
     fn names() -> &'static [Name] {
@@ -100,8 +100,6 @@ where
 {
     type Value = Vec<N::Number>;
 
-    type Element = DefaultNla;
-
     const FORM: Form = Form::Numbers(N::Number::OF);
 
     ghost FORM = { forms.Numbers N.Number.OF };
@@ -112,7 +110,10 @@ where
 
     ghost content = { λ numbers. Single (Raw (octets_by (size_in N.Number.OF) N.Number.value numbers.items)) };
 
-    fn elements() {}
+    #[inline(always)]
+    fn element_label(_kind: u16) -> Option<KindLabel> {
+        None
+    }
 
     #[inline]
     fn names() -> &'static [Name] {
@@ -164,8 +165,6 @@ pub struct AddressList<A> {
 impl<A: Address + Eq + Drop> PayloadClass for AddressList<A> {
     type Value = Vec<A>;
 
-    type Element = DefaultNla;
-
     const FORM: Form = Form::Addresses { size: A::SIZE };
 
     ghost FORM = { forms.Addresses A.SIZE };
@@ -174,7 +173,10 @@ impl<A: Address + Eq + Drop> PayloadClass for AddressList<A> {
 
     ghost content = { λ addresses. Listed (map A.octets addresses.items) };
 
-    fn elements() {}
+    #[inline(always)]
+    fn element_label(_kind: u16) -> Option<KindLabel> {
+        None
+    }
 
     #[inline]
     fn names() -> &'static [Name] {
@@ -225,8 +227,6 @@ pub struct NestedList<E> {
 impl<E: NestedAttribute + TryClone> PayloadClass for NestedList<E> {
     type Value = Vec<E>;
 
-    type Element = E;
-
     const FORM: Form = Form::List {
         flagged: E::FLAGGED,
     };
@@ -237,7 +237,10 @@ impl<E: NestedAttribute + TryClone> PayloadClass for NestedList<E> {
 
     ghost content = { λ values. Inner E.FLAGGED (map E.leaf values.items) };
 
-    fn elements() {}
+    #[inline(always)]
+    fn element_label(kind: u16) -> Option<KindLabel> {
+        E::label(None, kind)
+    }
 
     #[inline]
     fn names() -> &'static [Name] {

@@ -34,7 +34,7 @@ impl<T: NamedNumber> FixedSize for Named<T> {
 
     ghost fixed = { refl };
 
-    ghost told = { λ value. seen_value (bytes_in T.Number.WIDTH) (numbers_of T.names) (T.seen value) };
+    ghost means = { λ value. seen_value (bytes_in T.Number.WIDTH) (numbers_of T.names) (T.seen value) };
 
     #[inline]
     fn names() -> &'static [Name] {

@@ -6,7 +6,7 @@
 ghost use Rattle.std.specs.Prelude.{◌≡◌, ◌≤◌, ◌↔◌, ℕ, List, [], IsTrue, IfOk, OnErr, Some, length};
 ghost use Rattle.link_base.specs.declared.rows.form.Form.{Form};
 ghost use Rattle.link_base.specs.Frame.{max_payload};
-ghost use Rattle.link_base.specs.Table.{Shape, Content, Case, ShapeGives, ShapeTakesMemory};
+ghost use Rattle.link_base.specs.Table.{Shape, Content, Case, ShapeGives, ShapeTakesMemory, label_at};
 ghost use Rattle.link_base.specs.Table.{content_payload};
 ghost use Rattle.link_base.specs.Held.{ContentInRange};
 ghost use Rattle.link_base.specs.Buffer.{IsCanonicalAs};
@@ -14,12 +14,11 @@ ghost use Rattle.link_base.specs.Answers.{Answers, OnMemory, capped, under_kind}
 ghost use Rattle.link_base.specs.Checked.{Checks};
 ghost use Rattle.link_base.specs.Borrowed.{elements_by};
 ghost use Rattle.link_base.specs.Fields.{FieldRow};
-ghost use Rattle.link_base.specs.Labels.{names_in, field_rows};
+ghost use Rattle.link_base.specs.Labels.{names_in, field_rows, label_in};
 
-use crate::rows::attribute::Attribute;
 use crate::rows::fields::Field;
 use crate::rows::form::Form;
-use crate::rows::label::Name;
+use crate::rows::label::{KindLabel, Name};
 use crate::wire::buffer::NlaBuffer;
 use crate::wire::fault::{DecodeError, DecodeFault};
 use std::alloc::{AllocError, Global};
@@ -28,9 +27,6 @@ use std::alloc::{AllocError, Global};
 pub trait PayloadClass {
     /// A decoded payload.
     type Value: PartialEq + Drop;
-
-    /// The attributes of a nested list. If the class is none, this is `DefaultNla`.
-    type Element: Attribute;
 
     /// The form of the content.
     const FORM: Form;
@@ -49,9 +45,10 @@ pub trait PayloadClass {
     /// The content that a value represents.
     ghost content: { Self.Value → Content };
 
-    /// `Element` has the table of the attributes in a nested list. The body is empty: the contract is the fact.
-    fn elements()
-        ensures { Self.Element.table ≡ elements_by (Some Self.shape) };
+    /// Returns what is known of an attribute type in the nested lists of this class; `None` if no row has the type, or if
+    /// the class has no nested lists.
+    fn element_label(kind: u16) -> Option<KindLabel>
+        ensures { label_in result ≡ label_at (elements_by (Some Self.shape)) kind };
 
     /// Returns the names of the numbers of an enum, or of the bits of a set of flags.
     fn names() -> &'static [Name]

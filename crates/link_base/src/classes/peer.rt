@@ -13,10 +13,9 @@ use crate::classes::lengths::Lengths;
 use crate::classes::payload_class::PayloadClass;
 use crate::classes::records::check_at_least;
 use crate::lists::canonical::is_peer;
-use crate::rows::default_nla::DefaultNla;
 use crate::rows::fields::Field;
 use crate::rows::form::{Form, Look};
-use crate::rows::label::Name;
+use crate::rows::label::{KindLabel, Name};
 use crate::wire::buffer::NlaBuffer;
 use crate::wire::fault::{DecodeError, DecodeFault};
 use std::alloc::{AllocError, Global};
@@ -38,8 +37,6 @@ pub struct Peer {
 impl PayloadClass for Peer {
     type Value = Peer;
 
-    type Element = DefaultNla;
-
     const FORM: Form = Form::Bytes(Look::Peer);
 
     ghost FORM = { forms.Bytes looks.Peer };
@@ -48,7 +45,10 @@ impl PayloadClass for Peer {
 
     ghost content = { λ peer. Single (Raw (peer_octets peer)) };
 
-    fn elements() {}
+    #[inline(always)]
+    fn element_label(_kind: u16) -> Option<KindLabel> {
+        None
+    }
 
     #[inline]
     fn names() -> &'static [Name] {

@@ -26,7 +26,7 @@ impl FixedSize for bool {
 
     ghost fixed = { refl };
 
-    ghost told = { λ value. Boolean value };
+    ghost means = { λ value. Boolean value };
 
     #[inline]
     fn names() -> &'static [Name] {
@@ -58,7 +58,7 @@ impl FixedSize for i32 {
 
     ghost fixed = { refl };
 
-    ghost told = { λ value. Integer value };
+    ghost means = { λ value. Integer value };
 
     #[inline]
     fn names() -> &'static [Name] {
@@ -92,7 +92,7 @@ impl FixedSize for VlanProtocol {
 
     ghost fixed = { refl };
 
-    ghost told = { λ value. EtherType (protocol_number value) };
+    ghost means = { λ value. EtherType (protocol_number value) };
 
     #[inline]
     fn names() -> &'static [Name] {
@@ -124,7 +124,7 @@ impl FixedSize for [u8; 6] {
 
     ghost fixed = { refl };
 
-    ghost told = { λ value. Raw value };
+    ghost means = { λ value. Raw value };
 
     #[inline]
     fn names() -> &'static [Name] {
@@ -158,7 +158,7 @@ impl FixedSize for Ipv4Addr {
 
     ghost fixed = { refl };
 
-    ghost told = { λ address. Raw (four_octets address) };
+    ghost means = { λ address. Raw (four_octets address) };
 
     #[inline]
     fn names() -> &'static [Name] {
@@ -190,7 +190,7 @@ impl FixedSize for Ipv6Addr {
 
     ghost fixed = { refl };
 
-    ghost told = { λ address. Raw (sixteen_octets address) };
+    ghost means = { λ address. Raw (sixteen_octets address) };
 
     #[inline]
     fn names() -> &'static [Name] {
@@ -223,7 +223,7 @@ impl FixedSize for (u32, u32) {
 
     ghost fixed = { refl };
 
-    ghost told = { λ pair. Raw (octets_of 4 (pair.0 ∷ pair.1 ∷ [])) };
+    ghost means = { λ pair. Raw (octets_of 4 (pair.0 ∷ pair.1 ∷ [])) };
 
     #[inline]
     fn names() -> &'static [Name] {
@@ -256,7 +256,7 @@ impl FixedSize for () {
 
     ghost fixed = { refl };
 
-    ghost told = { λ _. Nothing };
+    ghost means = { λ _. Nothing };
 
     #[inline]
     fn names() -> &'static [Name] {

@@ -9,10 +9,9 @@ ghost use Rattle.link_base.specs.declared.rows.form.Look.TheVariants as looks;
 use crate::classes::lengths::Lengths;
 use crate::classes::payload_class::PayloadClass;
 use crate::lists::canonical::is_bytes;
-use crate::rows::default_nla::DefaultNla;
 use crate::rows::fields::Field;
 use crate::rows::form::{Form, Look};
-use crate::rows::label::Name;
+use crate::rows::label::{KindLabel, Name};
 use crate::wire::buffer::NlaBuffer;
 use crate::wire::fault::{DecodeError, DecodeFault};
 use std::alloc::{AllocError, Global};
@@ -52,8 +51,6 @@ pub struct Shown<L> {
 impl<L: BytesLook> PayloadClass for Shown<L> {
     type Value = Vec<u8>;
 
-    type Element = DefaultNla;
-
     const FORM: Form = Form::Bytes(L::LOOK);
 
     ghost FORM = { forms.Bytes L.LOOK };
@@ -62,7 +59,10 @@ impl<L: BytesLook> PayloadClass for Shown<L> {
 
     ghost content = { λ bytes. Single (Raw bytes.items) };
 
-    fn elements() {}
+    #[inline(always)]
+    fn element_label(_kind: u16) -> Option<KindLabel> {
+        None
+    }
 
     #[inline]
     fn names() -> &'static [Name] {

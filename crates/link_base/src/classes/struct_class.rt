@@ -13,10 +13,9 @@ ghost use Rattle.link_base.specs.declared.rows.form.Form.TheVariants as forms;
 
 use crate::classes::payload_class::PayloadClass;
 use crate::lists::canonical::is_fixed;
-use crate::rows::default_nla::DefaultNla;
 use crate::rows::fields::Field;
 use crate::rows::form::{Form, Layout};
-use crate::rows::label::Name;
+use crate::rows::label::{KindLabel, Name};
 use crate::wire::buffer::NlaBuffer;
 use crate::wire::fault::{DecodeError, DecodeFault};
 use std::alloc::{AllocError, Global};
@@ -89,8 +88,6 @@ pub(crate) fn load_struct<S: PayloadStruct>(payload: &[u8]) -> S
 impl<S: PayloadStruct> PayloadClass for Struct<S> {
     type Value = S;
 
-    type Element = DefaultNla;
-
     const FORM: Form = Form::Struct(S::LAYOUT);
 
     ghost FORM = { forms.Struct S.LAYOUT };
@@ -103,7 +100,10 @@ impl<S: PayloadStruct> PayloadClass for Struct<S> {
 
     ghost content = { λ value. Single (Raw (packed (S.held value))) };
 
-    fn elements() {}
+    #[inline(always)]
+    fn element_label(_kind: u16) -> Option<KindLabel> {
+        None
+    }
 
     #[inline]
     fn names() -> &'static [Name] {

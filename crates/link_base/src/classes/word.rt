@@ -256,7 +256,7 @@ impl<W: Word> FixedSize for W {
 
     ghost fixed = { refl };
 
-    ghost told = { λ value. Number (bytes_in W.WIDTH) (W.value value) };
+    ghost means = { λ value. Number (bytes_in W.WIDTH) (W.value value) };
 
     #[inline]
     fn names() -> &'static [Name] {

@@ -271,7 +271,7 @@ pub fn canonical_once<F: Attribute>()
 {}
 
 /// In a well-formed table, the class of each row is that of its form.
-#[tactic(auto, using(crate::proofs::Coherence::row_told))]
+#[tactic(auto, using(crate::proofs::Coherence::row_sound))]
 pub fn row_forms()
     ensures { (table : Table) (k : ℕ) (r : Row Shape) → is_table table ≡ true → row_at table k ≡ Some r
         → IsShapeOf r.form r.names r.class }

@@ -8,7 +8,7 @@ ghost use Rattle.link_base.specs.Buffer.{kind_field_of, payload_of, SplitsFirst}
 ghost use Rattle.link_base.specs.Table.{Gives};
 ghost use Rattle.link_base.specs.Default.{default_table};
 ghost use Rattle.link_base.specs.Coherent.{is_single};
-ghost use Rattle.link_base.specs.Checked.{Passes, Settles};
+ghost use Rattle.link_base.specs.Checked.{Passes, AllDecode};
 
 use crate::classes::records::u16_at;
 use crate::rows::attribute::Attribute;
@@ -28,7 +28,7 @@ pub(crate) fn skip_alike<F: Attribute>(bytes: &[u8]) -> (usize, &[u8])
     ensures { Passes (Gives F.table) bytes.now result.0 result.1.now }
 {
     match first_of_two(bytes) {
-        Some((first, after)) => skip_settled::<F>(bytes, first, after),
+        Some((first, after)) => skip_decodable::<F>(bytes, first, after),
         None => (0, bytes),
     }
 }
@@ -42,7 +42,7 @@ pub(crate) fn skip_leaves<E: NestedAttribute>(bytes: &[u8]) -> (usize, &[u8])
         return (0, bytes);
     }
     match first_of_two(bytes) {
-        Some((first, after)) => skip_settled_leaves::<E>(bytes, first, after),
+        Some((first, after)) => skip_decodable_leaves::<E>(bytes, first, after),
         None => (0, bytes),
     }
 }
@@ -75,7 +75,7 @@ pub(crate) fn skip_elements(bytes: &[u8]) -> (usize, &[u8])
 /// Skips attributes with the type and the length of the first; none, if the first does not show that they decode. `after` is
 /// what follows the first. Returns their number, and the bytes after them.
 #[inline(never)]
-fn skip_settled<'a, F: Attribute>(
+fn skip_decodable<'a, F: Attribute>(
     bytes: &'a [u8],
     first: NlaBuffer<'a>,
     after: &'a [u8],
@@ -83,16 +83,16 @@ fn skip_settled<'a, F: Attribute>(
     requires { SplitsFirst bytes.now first after.now }
     ensures { Passes (Gives F.table) bytes.now result.0 result.1.now }
 {
-    if settles::<F>(&first) {
+    if all_decode::<F>(&first) {
         skip_run::<F>(bytes, &first, after, false)
     } else {
         (0, bytes)
     }
 }
 
-/// Skips attributes of a nested list, as `skip_settled`. None of them is a list.
+/// Skips attributes of a nested list, as `skip_decodable`. None of them is a list.
 #[inline(never)]
-fn skip_settled_leaves<'a, E: NestedAttribute>(
+fn skip_decodable_leaves<'a, E: NestedAttribute>(
     bytes: &'a [u8],
     first: NlaBuffer<'a>,
     after: &'a [u8],
@@ -108,8 +108,8 @@ fn skip_settled_leaves<'a, E: NestedAttribute>(
 
 /// Checks whether every attribute with the type and the length of this one decodes. If this one does and is no list, they do.
 #[inline(always)]
-fn settles<F: Attribute>(first: &NlaBuffer<'_>) -> bool
-    ensures { IsTrue result → Settles (Gives F.table) (kind_field_of first.now) (length (payload_of first.now)) }
+fn all_decode<F: Attribute>(first: &NlaBuffer<'_>) -> bool
+    ensures { IsTrue result → AllDecode (Gives F.table) (kind_field_of first.now) (length (payload_of first.now)) }
 {
     match F::check(first) {
         Ok(()) => match F::label(None, first.kind()) {
@@ -138,8 +138,8 @@ fn skip_run<'a, F: Attribute>(
     of_any_type: bool,
 ) -> (usize, &'a [u8])
     requires first { SplitsFirst bytes.now first.now after.now }
-    requires settles { (f : ℕ) → IsTrue of_any_type ⊎ (f ≡ kind_field_of first.now)
-        → Settles (Gives F.table) f (length (payload_of first.now)) }
+    requires all_decode { (f : ℕ) → IsTrue of_any_type ⊎ (f ≡ kind_field_of first.now)
+        → AllDecode (Gives F.table) f (length (payload_of first.now)) }
     ensures { Passes (Gives F.table) bytes.now result.0 result.1.now }
 {
     let step = padded(usize::from(first.length()));

@@ -16,8 +16,10 @@ ghost use Rattle.link_base.specs.Answers.{Answers, OnMemory, OverwritesFront, ca
 ghost use Rattle.link_base.specs.Checked.{Checks};
 ghost use Rattle.link_base.specs.Borrowed.{table_within};
 
+use crate::rows::by_rows::AttributeRows;
 use crate::rows::label::KindLabel;
 use crate::rows::place::Place;
+use crate::rows::visitors::{Canonical, Check, ElementLabel, Label};
 use crate::wire::buffer::NlaBuffer;
 use crate::wire::fault::{DecodeError, DecodeFault, of_kind};
 use crate::wire::padding::total_size;
@@ -173,24 +175,38 @@ pub trait Parseable: Meaning + Drop + Sized {
 }
 
 /// An attribute of one attribute set. Parsing and writing agree, by the properties below.
-pub trait Attribute: Nla + Parseable + Eq {
+pub trait Attribute: AttributeRows + Nla + Parseable + Eq {
     /// Checks whether an attribute decodes. Builds no value and does not allocate.
     ///
     /// # Errors
     ///
     /// `Value`, `NestedFrame` or `NestedValue`: the error that `parse` returns unless an allocation fails.
+    #[inline(always)]
     fn check(buffer: &NlaBuffer<'_>) -> Result<(), DecodeFault>
-        ensures { Checks (Gives Self.table (kind_field_of buffer.now) (payload_of buffer.now)) result };
+        ensures { Checks (Gives Self.table (kind_field_of buffer.now) (payload_of buffer.now)) result }
+    {
+        Self::visit_row(buffer.kind(), Check { buffer })
+    }
 
     /// Returns what is known of an attribute type besides its payloads; `None` if no row has the type. If `list` is
     /// `Some`, the type is one in nested lists of this attribute type.
+    #[inline(always)]
     fn label(list: Option<u16>, kind: u16) -> Option<KindLabel>
-        ensures { label_in result ≡ label_at (table_within Self.table list) kind };
+        ensures { label_in result ≡ label_at (table_within Self.table list) kind }
+    {
+        match list {
+            None => Self::visit_row(kind, Label),
+            Some(list) => Self::visit_row(list, ElementLabel { kind }),
+        }
+    }
 
     /// Checks whether an attribute is canonical: its `nla_type` and payload are what would be written for the value
     /// that they decode to. Nothing is decoded. Padding is checked with the list, by `list_is_canonical`.
     fn canonical(buffer: &NlaBuffer<'_>) -> bool
-        ensures { IsTrue result ↔ Allows Self.table (kind_field_of buffer.now) (payload_of buffer.now) };
+        ensures { IsTrue result ↔ Allows Self.table (kind_field_of buffer.now) (payload_of buffer.now) }
+    {
+        Self::visit_row(buffer.kind(), Canonical { buffer })
+    }
 
     /// The theorems about single attributes hold for the type's table.
     ghost lawful: { IsLawful Self.table };

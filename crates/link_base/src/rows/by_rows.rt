@@ -1,28 +1,24 @@
 //! The rows of an attribute set: what the functions of the set do for one attribute type. The macro `by_rows!` makes
 //! these functions. Those that depend on the attribute type alone share one `match`, `AttributeRows::visit_row`.
 
-ghost use Rattle.std.specs.Prelude.{◌≡◌, ◌<◌, ◌↔◌, ℕ, None, Some, IsTrue, IfOk, OnErr, length};
+ghost use Rattle.std.specs.Prelude.{◌≡◌, ◌<◌, ℕ, None, Some, IsTrue, IfOk, OnErr, length};
 ghost use Rattle.link_base.specs.Frame.{kind_of, kind_limit};
-ghost use Rattle.link_base.specs.Table.{Case, Gives, TakesMemory, Fits, Allows, row_of, row_at, class_at, label_at};
+ghost use Rattle.link_base.specs.Table.{Case, Gives, TakesMemory, Fits, row_of, row_at, class_at};
 ghost use Rattle.link_base.specs.Table.{written_payload};
 ghost use Rattle.link_base.specs.Parts.{up_to, above};
 ghost use Rattle.link_base.specs.Default.{default_means};
-ghost use Rattle.link_base.specs.Labels.{label_in};
 ghost use Rattle.link_base.specs.Held.{IsInRange, HoldsMemory};
 ghost use Rattle.link_base.specs.Buffer.{kind_field_of, payload_of};
 ghost use Rattle.link_base.specs.Storing.{Puts};
 ghost use Rattle.link_base.specs.Answers.{OnMemory, under_kind};
-ghost use Rattle.link_base.specs.Checked.{Checks};
-ghost use Rattle.link_base.specs.Borrowed.{table_within};
 
 use crate::classes::payload_class::PayloadClass;
 use crate::rows::attribute::{Meaning, Parseable};
 use crate::rows::default_nla::DefaultNla;
-use crate::rows::label::{KindLabel, Quantity};
+use crate::rows::label::Quantity;
 use crate::rows::place::{Place, keep};
-use crate::rows::visitors::{Canonical, Check, ElementLabel, Label};
 use crate::wire::buffer::NlaBuffer;
-use crate::wire::fault::{DecodeError, DecodeFault};
+use crate::wire::fault::DecodeError;
 use std::alloc::{AllocError, Global};
 
 /// What a row says besides the class of its payloads.
@@ -138,37 +134,6 @@ pub fn none_above<F: Meaning>(_kind: u16, _last: u16)
     requires second { row_at (above _last F.table) _kind ≡ None }
     ensures { row_at F.table _kind ≡ None }
 {}
-
-/// Checks whether an attribute decodes, as `Attribute::check`.
-///
-/// # Errors
-///
-/// As for `Attribute::check`.
-#[inline(always)]
-pub fn check<F: AttributeRows>(buffer: &NlaBuffer<'_>) -> Result<(), DecodeFault>
-    ensures { Checks (Gives F.table (kind_field_of buffer.now) (payload_of buffer.now)) result }
-{
-    F::visit_row(buffer.kind(), Check { buffer })
-}
-
-/// Returns what is known of an attribute type, as `Attribute::label`.
-#[inline(always)]
-pub fn label<F: AttributeRows>(list: Option<u16>, kind: u16) -> Option<KindLabel>
-    ensures { label_in result ≡ label_at (table_within F.table list) kind }
-{
-    match list {
-        None => F::visit_row(kind, Label),
-        Some(list) => F::visit_row(list, ElementLabel { kind }),
-    }
-}
-
-/// Checks whether an attribute is canonical, as `Attribute::canonical`.
-#[inline(always)]
-pub fn canonical<F: AttributeRows>(buffer: &NlaBuffer<'_>) -> bool
-    ensures { IsTrue result ↔ Allows F.table (kind_field_of buffer.now) (payload_of buffer.now) }
-{
-    F::visit_row(buffer.kind(), Canonical { buffer })
-}
 
 /// Writes the payload of an attribute, whose row has the class `C`. `value` is what its variant holds.
 #[inline(always)]

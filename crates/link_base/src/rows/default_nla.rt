@@ -3,11 +3,11 @@
 ghost use Rattle.std.specs.Prelude.{◌≡◌, ◌<◌, ◌^◌};
 
 use crate::rows::attribute::{Attribute, Meaning, Nla, Parseable};
-use crate::rows::label::KindLabel;
+use crate::rows::by_rows::{AttributeRows, RowVisitor};
 use crate::rows::place::Place;
 use crate::rows::try_clone::TryClone;
 use crate::wire::buffer::NlaBuffer;
-use crate::wire::fault::{DecodeError, DecodeFault};
+use crate::wire::fault::DecodeError;
 use crate::wire::octets::Octets;
 use std::alloc::{AllocError, Global};
 
@@ -86,25 +86,17 @@ impl Parseable for DefaultNla {
     }
 }
 
+impl AttributeRows for DefaultNla {
+    #[inline(always)]
+    fn visit_row<V: RowVisitor<Self>>(kind: u16, visitor: V) -> V::Output {
+        visitor.other(kind)
+    }
+}
+
 impl Attribute for DefaultNla {
     ghost use Rattle.std.specs.Prelude.{refl};
     ghost use Rattle.link_base.specs.DefaultLawful.{default_lawful};
     ghost use Rattle.link_base.specs.Equality.{defaults};
-
-    /// Succeeds: every payload is a value.
-    fn check(_frame: &NlaBuffer<'_>) -> Result<(), DecodeFault> {
-        Ok(())
-    }
-
-    /// Returns `None`: no attribute type has a row.
-    fn label(_list: Option<u16>, _kind: u16) -> Option<KindLabel> {
-        None
-    }
-
-    /// Returns true: every `nla_type` and every payload is written unchanged.
-    fn canonical(_frame: &NlaBuffer<'_>) -> bool {
-        true
-    }
 
     ghost lawful = { default_lawful };
 

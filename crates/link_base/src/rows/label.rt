@@ -42,6 +42,14 @@ pub struct Name {
     pub text: &'static str,
 }
 
+/// The names of numbers or of bits, each after its number, as `&'static [Name]`: `names![0 "unset" 1 "set"]`.
+#[macro_export]
+macro_rules! names {
+    ($($number:literal $text:literal)*) => {
+        &[$($crate::rows::label::Name { number: $number, text: $text },)*]
+    };
+}
+
 /// What is known of an attribute type besides its payloads.
 #[derive(Clone, Copy, Debug, PartialEq, Eq)]
 pub struct KindLabel {

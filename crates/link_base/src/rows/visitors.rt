@@ -9,7 +9,7 @@ ghost use Rattle.link_base.specs.Checked.{Checks};
 ghost use Rattle.link_base.specs.Borrowed.{elements_at};
 
 use crate::classes::payload_class::PayloadClass;
-use crate::rows::attribute::{Attribute, Meaning};
+use crate::rows::attribute::Meaning;
 use crate::rows::by_rows::{RowHead, RowVisitor};
 use crate::rows::label::KindLabel;
 use crate::wire::buffer::NlaBuffer;
@@ -97,8 +97,7 @@ impl<F: Meaning> RowVisitor<F> for ElementLabel {
     #[inline(always)]
     #[tactic(auto, using(crate::proofs::Entries::class_of_row))]
     fn row<C: PayloadClass>(self, _list: u16, _head: RowHead) -> Option<KindLabel> {
-        C::elements();
-        <C::Element as Attribute>::label(None, self.kind)
+        C::element_label(self.kind)
     }
 
     #[inline(always)]

@@ -14,32 +14,37 @@ const NO_ROW: Row = Row {
     flags: 9,
     form: 9,
     is_list: 9,
+    unit: 9,
 };
 
 #[test]
 fn rows(rt: HostRuntime) {
-    // the set, the type, the element and the depth; the width, the flags, the form, and whether it is a list
-    let rows: [(u32, u16, u16, u8, u32, u16, u8, u8); 9] = [
-        (3, 1, 0, 0, 4, 0, 3, 0),
-        (3, 99, 0, 0, 0, 0, 19, 0),
-        (3, 47, 0, 0, 0, 0x8000, 18, 1),
-        (3, 47, 1, 1, 4, 0, 9, 0),
-        (1, 1, 0, 0, 1, 0, 5, 0),
-        (1, 8, 0, 0, 0, 0, 18, 1),
-        (1, 8, 3, 1, 4, 0, 9, 0),
-        (5, 3, 1, 1, 4, 0, 13, 0),
-        (6, 1, 0, 0, 32, 0, 15, 0),
+    // the set, the type, the element and the depth; the width, the flags, the form, whether it is a list, and the unit
+    let rows: [(u32, u16, u16, u8, u32, u16, u8, u8, u32); 13] = [
+        (3, 1, 0, 0, 4, 0, 3, 0, 1),
+        (3, 99, 0, 0, 0, 0, 19, 0, 0),
+        (3, 47, 0, 0, 0, 0x8000, 18, 1, 0),
+        (3, 47, 1, 1, 4, 0, 9, 0, 0),
+        (3, 47, 3, 1, 8, 0, 3, 0, 1),
+        (1, 1, 0, 0, 1, 0, 5, 0, 0),
+        (1, 2, 0, 0, 4, 0, 3, 0, 8),
+        (1, 8, 0, 0, 0, 0, 18, 1, 0),
+        (1, 8, 3, 1, 4, 0, 9, 0, 0),
+        (5, 3, 1, 1, 4, 0, 13, 0, 0),
+        (6, 1, 0, 0, 32, 0, 15, 0, 0),
+        (6, 12, 0, 0, 0, 0, 18, 1, 5),
+        (6, 12, 7, 1, 2, 0, 3, 0, 5),
     ];
-    for (family, kind, inner, depth, width, flags, form, is_list) in rows {
+    for (family, kind, inner, depth, width, flags, form, is_list, unit) in rows {
         let mut row = NO_ROW;
         let answer = nlroute_read_row(family, kind, inner, depth, &mut row);
         let is_so = row.width == width && row.form == form && row.is_list == is_list;
-        assert!(rt; answer == 0 && is_so && row.flags == flags);
+        assert!(rt; answer == 0 && is_so && row.flags == flags && row.unit == unit);
     }
     for (kind, depth) in [(1, 1), (47, 2)] {
         let mut row = NO_ROW;
         let answer = nlroute_read_row(3, kind, 1, depth, &mut row);
-        assert!(rt; answer == -9 && row.width == 9 && row.form == 9);
+        assert!(rt; answer == -9 && row.width == 9 && row.form == 9 && row.unit == 9);
     }
     assert!(rt; nlroute_read_row(99, 1, 0, 0, &mut NO_ROW) == -5);
 }

@@ -9,11 +9,11 @@ use Rattle.link_capture.specs.declared.capture.Next.TheVariants as nexts
 use Rattle.link_capture.specs.declared.error.InputError.{InputError}
 use Rattle.link_capture.specs.declared.event.Event.{Event}
 use Rattle.link_capture.specs.Same.{IsSameNext}
-use Rattle.link_capture.specs.Told.{told_of}
+use Rattle.link_capture.specs.Meaning.{meaning_of}
 use Rattle.link_capture.proofs.laws.equality.Goals as goal
 
 -- `==` of events
-events : (a b : Event) → Decides (of_event.ghosts.eq a b) (told_of a ≡ told_of b)
+events : (a b : Event) → Decides (of_event.ghosts.eq a b) (meaning_of a ≡ meaning_of b)
 events a b = search rules
 
 -- `==` of errors

@@ -12,8 +12,8 @@ use Rattle.link_json.proofs.documents.write_about_link.Goals as goal
 pub returns-in_ok-key-in-Ok : goal.returns-in_ok-key-in-Ok
 returns-in_ok-key-in-Ok c =
     let m = c.args.message.now in
-    let old = c.args.sheet.now in
-    let new = c.write_link.new.sheet in
+    let old = c.args.doc.now in
+    let new = c.write_link.new.doc in
     let h = c.in-Ok.ensures in
     if_ok (WritesValue (ShowsLink c.in-Ok.header (attributes_of m.at (packet_of m))) c.key.new.self new) (WritesFields (ShowsBody m) old new) c.write_link.result
     (λ well (j, shown, written). ((codes "link", j) ∷ [], Link c.in-Ok.header (iff_false c.is_general.ensures c.if-is_general.false) h.0 j shown refl, field_only old c.key.new.self new (codes "link") j c.in_ok-key-in-Ok.ensures written))

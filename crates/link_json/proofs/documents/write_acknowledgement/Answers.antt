@@ -6,8 +6,8 @@ use Rattle.link_json.proofs.documents.write_acknowledgement.Goals as goal
 pub returns-in-Ok : goal.returns-in-Ok
 returns-in-Ok c =
     let a = c.in-Ok.reply in
-    let old = c.args.sheet.now in
-    let new = c.write_reply.new.sheet in
+    let old = c.args.doc.now in
+    let new = c.write_reply.new.doc in
     if_ok (WritesFields (ShowsReply a) old new) (WritesFields (ShowsBody c.args.message.now) old new) c.write_reply.result (λ well s. (s.0, Reply a c.in-Ok.ensures s.1, s.2)) c.write_reply.ensures
 
 pub returns-in_ok-write_message_error-in-Err : goal.returns-in_ok-write_message_error-in-Err

@@ -9,8 +9,8 @@ use Rattle.link_json.proofs.elements.write_flat.Goals as goal
 pub returns-in_ok-write_addresses-in-Addresses : goal.returns-in_ok-write_addresses-in-Addresses
 returns-in_ok-write_addresses-in-Addresses c =
     let written = c.in_ok-write_addresses-in-Addresses.ensures in
-    let old = c.args.sheet.now in
+    let old = c.args.doc.now in
     let new = c.end_array.new.self in
     subst (λ content. OnOk c.end_array.result (WritesOne (ShowsFlat (label_of c.args.label.now) content) old new)) (sym c.in-Addresses.is)
-    (on_ok c.end_array.result (λ e. (array_of written.0, (written.0, written.1, refl), array_written old c.begin_array.new.self c.write_addresses.new.sheet new written.0 c.in_ok-begin_array-in-Addresses.ensures written.2 e))
+    (on_ok c.end_array.result (λ e. (array_of written.0, (written.0, written.1, refl), array_written old c.begin_array.new.self c.write_addresses.new.doc new written.0 c.in_ok-begin_array-in-Addresses.ensures written.2 e))
     c.end_array.ensures)

@@ -17,7 +17,7 @@ returns c =
     (λ e. (
       labelled_json label written.0,
       (written.0, written.1, refl),
-      object_written c.args.sheet.now c.begin_object.new.self c.write_unit.new.sheet c.end_object.new.self ((codes "name", name) ∷ (codes "value", written.0) ∷ unit) c.in_ok-begin_object.ensures
-          (field_then c.begin_object.new.self c.key.new.self c.short_name.new.self c.write_unit.new.sheet (codes "name") name ((codes "value", written.0) ∷ unit) c.in_ok-key.ensures c.in_ok-short_name.ensures
-          (field_then c.short_name.new.self c.key-2.new.self c.write_flat.new.sheet c.write_unit.new.sheet (codes "value") written.0 unit c.in_ok-key-2.ensures written.2 c.in_ok-write_unit.ensures)) e,
+      object_written c.args.doc.now c.begin_object.new.self c.write_unit.new.doc c.end_object.new.self ((codes "name", name) ∷ (codes "value", written.0) ∷ unit) c.in_ok-begin_object.ensures
+          (field_then c.begin_object.new.self c.key.new.self c.short_name.new.self c.write_unit.new.doc (codes "name") name ((codes "value", written.0) ∷ unit) c.in_ok-key.ensures c.in_ok-short_name.ensures
+          (field_then c.short_name.new.self c.key-2.new.self c.write_flat.new.doc c.write_unit.new.doc (codes "value") written.0 unit c.in_ok-key-2.ensures written.2 c.in_ok-write_unit.ensures)) e,
     )) c.end_object.ensures

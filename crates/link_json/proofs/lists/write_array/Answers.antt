@@ -12,4 +12,4 @@ returns c =
     let b = c.visit_list.new.writer in
     let well = c.in_ok-well.well in
     let written = subst (λ x. Added Adds (Shows elements levels x 0 c.args.family (list.at, list.bytes.now)) a b well) c.of_message-context.ensures c.in_ok-well.ensures in
-    array_shown (ShowsList c.args.address_family c.args.family list.at list.bytes.now) c.args.sheet.now a b c.end_array.new.self well c.in_ok-begin_array.ensures written c.in_ok-end_array.ensures
+    array_shown (ShowsList c.args.address_family c.args.family list.at list.bytes.now) c.args.doc.now a b c.end_array.new.self well c.in_ok-begin_array.ensures written c.in_ok-end_array.ensures

@@ -1,9 +1,9 @@
 use Rattle.std.proofs.Common.{◌∷◌, [], refl}
-use Rattle.link_json.proofs.DocumentParts.{sheet_line}
+use Rattle.link_json.proofs.DocumentParts.{cleared_line}
 use Rattle.link_json.proofs.messages.write_line.Goals as goal
 
 pub returns-in-Ok-print_document-clause-shown : goal.returns-in-Ok-print_document-clause-shown
 returns-in-Ok-print_document-clause-shown g c =
     let contents = g.W.Write.contents in
     let (j, shown, stored) = c.in-Ok.ensures in
-    (j ∷ [], (j, shown, refl), sheet_line (contents c.args.writer.now) (contents c.print_document.new.writer) c.clear.new.self c.store_message.new.sheet j c.clear.ensures stored c.in-Ok-print_document.ensures.line)
+    (j ∷ [], (j, shown, refl), cleared_line (contents c.args.writer.now) (contents c.print_document.new.writer) c.clear.new.self c.store_message.new.doc j c.clear.ensures stored c.in-Ok-print_document.ensures.line)

@@ -4,7 +4,7 @@ use Rattle.std.proofs.lemmas.List.{take_rest}
 use Rattle.std.proofs.KnownBytes.{Appends-nil}
 use Rattle.link_show.specs.Message.{AreZerosAfter}
 use Rattle.link_json.specs.Message.{Zeros, Broken, message_error, whole_document}
-use Rattle.link_json.proofs.DocumentParts.{sheet_line}
+use Rattle.link_json.proofs.DocumentParts.{cleared_line}
 use Rattle.link_json.proofs.messages.write_rest.Goals as goal
 
 pub returns-then-are_zeros_after-clause-shown : goal.returns-then-are_zeros_after-clause-shown
@@ -20,4 +20,4 @@ returns-in-Ok-print_document-clause-shown g c =
     let some = λ (zeros : AreZerosAfter at (drop at c.args.buffer.now)). other (subst (AreZerosAfter at) (sym (take_rest c.args.buffer.now at)) zeros) in
     let contents = g.W.Write.contents in
     let j = whole_document (g.P.Place.fields c.args.place.now) (message_error c.args.error ∷ []) false in
-    (j ∷ [], Broken c.requires.0 c.args.error c.requires.1 some refl refl, sheet_line (contents c.args.writer.now) (contents c.print_document.new.writer) c.clear.new.self c.store_error.new.sheet j c.clear.ensures c.in-Ok.ensures c.in-Ok-print_document.ensures.line)
+    (j ∷ [], Broken c.requires.0 c.args.error c.requires.1 some refl refl, cleared_line (contents c.args.writer.now) (contents c.print_document.new.writer) c.clear.new.self c.store_error.new.doc j c.clear.ensures c.in-Ok.ensures c.in-Ok-print_document.ensures.line)

@@ -12,5 +12,5 @@ loop-i-preserved c =
     let p = c.args.bytes.now in
     let n = length p / size_in a in
     let i = c.loop-i.i in
-    moved c.args.sheet.now c.loop-i.sheet c.write_item.new.sheet _ (numbers_left a n i p) (numbers_left a n (i + 1) p) (json_tokens (item_json a (number_at (size_in a) (i * size_in a) p))) c.loop-i.invariant
+    moved c.args.doc.now c.loop-i.doc c.write_item.new.doc _ (numbers_left a n i p) (numbers_left a n (i + 1) p) (json_tokens (item_json a (number_at (size_in a) (i * size_in a) p))) c.loop-i.invariant
     (number_more a n i p (rw c.size.ensures.value at c.loop-i-test.true)) c.in_ok-write_item.ensures

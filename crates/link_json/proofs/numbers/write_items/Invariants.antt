@@ -9,5 +9,5 @@ use Rattle.link_json.proofs.numbers.write_items.Given as goal
 
 abbrev pub invariant-loop-i : goal.invariant-loop-i
 invariant-loop-i l =
-    l.sheet ++ numbers_left l.of (length l.bytes / size_in l.of) l.i l.bytes
-    ≡ l.fn.sheet ++ json_tokens (array_of (map (item_json l.of) (numbers_of (size_in l.of) l.bytes)))
+    l.doc ++ numbers_left l.of (length l.bytes / size_in l.of) l.i l.bytes
+    ≡ l.fn.doc ++ json_tokens (array_of (map (item_json l.of) (numbers_of (size_in l.of) l.bytes)))

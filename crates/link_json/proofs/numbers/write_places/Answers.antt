@@ -18,9 +18,9 @@ loop-i-preserved c =
     let first = key (place_key i (name_in names i)) ∷ [] in
     let number = json_tokens (item_json a (number_at (size_in a) (i * size_in a) p)) in
     let same = c.names_from-left.ensures i (omega arith) ∙ c.loop-i.invariant.1 i (omega arith) in
-    let named = c.in_ok-write_place.ensures ∙ ap (λ name. c.loop-i.sheet ++ key (place_key i name) ∷ []) same in
-    let written = c.in_ok-write_item.ensures ∙ ap (λ t. t ++ number) named ∙ append_assoc c.loop-i.sheet first number in (
-      moved c.args.sheet.now c.loop-i.sheet c.write_item.new.sheet _ (places_left names a n i p) (places_left names a n (i + 1) p) (place_tokens names a i p) c.loop-i.invariant.0
+    let named = c.in_ok-write_place.ensures ∙ ap (λ name. c.loop-i.doc ++ key (place_key i name) ∷ []) same in
+    let written = c.in_ok-write_item.ensures ∙ ap (λ t. t ++ number) named ∙ append_assoc c.loop-i.doc first number in (
+      moved c.args.doc.now c.loop-i.doc c.write_item.new.doc _ (places_left names a n i p) (places_left names a n (i + 1) p) (place_tokens names a i p) c.loop-i.invariant.0
           (place_more names a n i p (rw c.size.ensures.value at c.loop-i-test.true)) written,
       λ k le. c.names_from-left.ensures k (omega (arith, le)) ∙ c.loop-i.invariant.1 k (omega (arith, le)),
     )

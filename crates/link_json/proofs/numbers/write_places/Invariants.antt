@@ -10,6 +10,6 @@ use Rattle.link_json.proofs.numbers.write_places.Given as goal
 
 abbrev pub invariant-loop-i : goal.invariant-loop-i
 invariant-loop-i l =
-    (l.sheet ++ places_left (names_in l.names) l.of (length l.bytes / size_in l.of) l.i l.bytes
-    ≡ l.fn.sheet ++ json_tokens (object_of (places_json (names_in l.names) l.of 0 (numbers_of (size_in l.of) l.bytes))))
+    (l.doc ++ places_left (names_in l.names) l.of (length l.bytes / size_in l.of) l.i l.bytes
+    ≡ l.fn.doc ++ json_tokens (object_of (places_json (names_in l.names) l.of 0 (numbers_of (size_in l.of) l.bytes))))
     × ((k : ℕ) → l.i ≤ k → name_in (names_in l.left) k ≡ name_in (names_in l.names) k)

@@ -7,4 +7,4 @@ use Rattle.link_json.proofs.Loops.{names_left}
 use Rattle.link_json.proofs.numbers.write_set_names.Given as goal
 
 abbrev pub invariant-loop-name : goal.invariant-loop-name
-invariant-loop-name l = l.sheet ++ names_left l.names l.bits l.name-index ≡ l.fn.sheet ++ json_tokens (array_of (names_json (names_in l.names) l.bits))
+invariant-loop-name l = l.doc ++ names_left l.names l.bits l.name-index ≡ l.fn.doc ++ json_tokens (array_of (names_json (names_in l.names) l.bits))

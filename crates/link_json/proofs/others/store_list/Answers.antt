@@ -15,14 +15,14 @@ returns g c =
     let well = c.in_ok-well.well in
     let name = string (family_name c.args.family) in
     let named = subst (λ n. c.string.new.self ≡ c.key-2.new.self ++ json_tokens (string n)) c.name.ensures c.in_ok-string.ensures in
-    let array = subst (λ j. c.write_array.new.sheet ≡ c.key-3.new.self ++ json_tokens j) is written in
+    let array = subst (λ j. c.write_array.new.doc ≡ c.key-3.new.self ++ json_tokens j) is written in
     let o = c.begin_object-2.new.self in
-    let f = c.write_array.new.sheet in
+    let f = c.write_array.new.doc in
     let fields = field_then o c.key-2.new.self c.string.new.self f (codes "family") name ((codes "attrs", array_of js) ∷ []) c.in_ok-key-2.ensures named
     (field_only c.string.new.self c.key-3.new.self f (codes "attrs") (array_of js) c.in_ok-key-3.ensures array) in (
       list_document place c.args.family js well,
       (js, shown, refl),
-      member_document c.args.sheet.now c.begin_object.new.self c.write_fields.new.sheet c.key.new.self o f c.end_object.new.self c.end_document.new.sheet place
+      member_document c.args.doc.now c.begin_object.new.self c.write_fields.new.doc c.key.new.self o f c.end_object.new.self c.end_document.new.doc place
           ((codes "family", name) ∷ (codes "attrs", array_of js) ∷ []) (codes "list") well c.in_ok-begin_object.ensures c.in_ok-write_fields.ensures c.in_ok-key.ensures c.in_ok-begin_object-2.ensures fields
           c.in_ok-end_object.ensures c.in_ok-end_document.ensures,
     )

@@ -11,5 +11,5 @@ returns-in-Ok-print_document-clause-shown g c =
     let j = check_document place c.args.family first in (
       j,
       check_shown place c.args.family c.args.bytes.now first c.is_none.result c.is_none.ensures c.first_not_canonical-first.ensures,
-      empty_line (contents c.args.writer.now) (contents c.print_document.new.writer) c.clear.new.self c.store_check.new.sheet j c.clear.ensures c.in-Ok.ensures c.in-Ok-print_document.ensures.line,
+      empty_line (contents c.args.writer.now) (contents c.print_document.new.writer) c.clear.new.self c.store_check.new.doc j c.clear.ensures c.in-Ok.ensures c.in-Ok-print_document.ensures.line,
     )

@@ -19,7 +19,7 @@ loop-field-preserved c =
     let shown = field_json c.args.start (names_in c.args.names.now) c.args.bytes.now in
     let xs = c.args.fields.now in
     let i = c.loop-field.field-index in
-    moved c.args.sheet.now c.loop-field.sheet c.write_field.new.sheet (fields_tokens (map shown (field_rows xs))) (fields_tokens (map shown (field_rows (drop i xs))))
+    moved c.args.doc.now c.loop-field.doc c.write_field.new.doc (fields_tokens (map shown (field_rows xs))) (fields_tokens (map shown (field_rows (drop i xs))))
     (fields_tokens (map shown (field_rows (drop (i + 1) xs)))) _ c.loop-field.invariant
     (at_drop_more (λ ys. fields_tokens (map shown (field_rows ys))) xs i _ c.loop-field-test.true ∙ fields_both (shown (field_row (slice_index_or xs i _)) ∷ []) (map shown (field_rows (drop (i + 1) xs))))
     c.in_ok-write_field.ensures
@@ -28,6 +28,6 @@ pub returns : goal.returns
 returns c =
     let shown = field_json c.args.start (names_in c.args.names.now) c.args.bytes.now in
     let xs = c.args.fields.now in
-    let all = all_moved c.args.sheet.now c.loop-field.sheet c.loop-field.sheet (fields_tokens (map shown (field_rows xs))) (fields_tokens (map shown (field_rows (drop c.loop-field.field-index xs)))) (fields_tokens []) c.loop-field.invariant
-    (at_drop_all (λ ys. fields_tokens (map shown (field_rows ys))) xs c.loop-field.field-index c.loop-field-test.false) (no_field c.loop-field.sheet) in
-    all ∙ ap (λ fields. c.args.sheet.now ++ fields_tokens fields) (sym (cond-true _ _ _ (sym c.has_fields.ensures ∙ c.if-not-has_fields.false)))
+    let all = all_moved c.args.doc.now c.loop-field.doc c.loop-field.doc (fields_tokens (map shown (field_rows xs))) (fields_tokens (map shown (field_rows (drop c.loop-field.field-index xs)))) (fields_tokens []) c.loop-field.invariant
+    (at_drop_all (λ ys. fields_tokens (map shown (field_rows ys))) xs c.loop-field.field-index c.loop-field-test.false) (no_field c.loop-field.doc) in
+    all ∙ ap (λ fields. c.args.doc.now ++ fields_tokens fields) (sym (cond-true _ _ _ (sym c.has_fields.ensures ∙ c.if-not-has_fields.false)))

@@ -6,5 +6,5 @@ use Rattle.link_json.proofs.structs.write_fields.Given as goal
 
 abbrev pub invariant-loop-field : goal.invariant-loop-field
 invariant-loop-field l =
-    l.sheet ++ fields_tokens (map (field_json l.start (names_in l.names) l.bytes) (field_rows (drop l.field-index l.fields)))
-    ≡ l.fn.sheet ++ fields_tokens (map (field_json l.start (names_in l.names) l.bytes) (field_rows l.fields))
+    l.doc ++ fields_tokens (map (field_json l.start (names_in l.names) l.bytes) (field_rows (drop l.field-index l.fields)))
+    ≡ l.fn.doc ++ fields_tokens (map (field_json l.start (names_in l.names) l.bytes) (field_rows l.fields))

@@ -8,7 +8,7 @@ use Rattle.link_json.proofs.structs.write_limits.Goals as goal
 pub returns : goal.returns
 returns c =
     let rest = fields_json limit_fields 16 [] c.args.numbers.now in
-    let written = subst (λ fields. c.write_fields.new.sheet ≡ c.text.new.self ++ fields_tokens (fields_json fields 16 [] c.args.numbers.now)) c.limit_fields.ensures c.in_ok-write_fields.ensures in
-    object_then c.end_object.result c.args.sheet.now c.begin_object.new.self c.write_fields.new.sheet c.end_object.new.self ((codes "name", text_json c.args.name.now) ∷ rest) c.in_ok-begin_object.ensures
-    (field_then c.begin_object.new.self c.key.new.self c.text.new.self c.write_fields.new.sheet (codes "name") (text_json c.args.name.now) rest c.in_ok-key.ensures c.in_ok-text.ensures written)
+    let written = subst (λ fields. c.write_fields.new.doc ≡ c.text.new.self ++ fields_tokens (fields_json fields 16 [] c.args.numbers.now)) c.limit_fields.ensures c.in_ok-write_fields.ensures in
+    object_then c.end_object.result c.args.doc.now c.begin_object.new.self c.write_fields.new.doc c.end_object.new.self ((codes "name", text_json c.args.name.now) ∷ rest) c.in_ok-begin_object.ensures
+    (field_then c.begin_object.new.self c.key.new.self c.text.new.self c.write_fields.new.doc (codes "name") (text_json c.args.name.now) rest c.in_ok-key.ensures c.in_ok-text.ensures written)
     c.end_object.ensures

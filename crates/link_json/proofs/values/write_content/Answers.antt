@@ -9,5 +9,5 @@ use Rattle.link_json.proofs.values.write_content.Goals as goal
 
 pub returns-in-Ipv4 : goal.returns-in-Ipv4
 returns-in-Ipv4 c =
-    let written = subst (λ t. OnOk c.ip.result (c.ip.new.self ≡ c.args.sheet.now ++ string t ∷ [])) (ip_of_four c.octets.result c.octets.type_inv.1.0.1 ∙ ap ipv4_text c.octets.ensures) c.ip.ensures in
-    subst (λ x. OnOk c.ip.result (c.ip.new.self ≡ c.args.sheet.now ++ json_tokens (content_json (label_of c.args.label.now) x))) (sym c.in-Ipv4.is) written
+    let written = subst (λ t. OnOk c.ip.result (c.ip.new.self ≡ c.args.doc.now ++ string t ∷ [])) (ip_of_four c.octets.result c.octets.type_inv.1.0.1 ∙ ap ipv4_text c.octets.ensures) c.ip.ensures in
+    subst (λ x. OnOk c.ip.result (c.ip.new.self ≡ c.args.doc.now ++ json_tokens (content_json (label_of c.args.label.now) x))) (sym c.in-Ipv4.is) written

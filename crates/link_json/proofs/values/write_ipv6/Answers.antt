@@ -7,4 +7,4 @@ use Rattle.link_json.proofs.values.write_ipv6.Goals as goal
 
 pub returns : goal.returns
 returns c =
-    subst (λ t. OnOk c.ip.result (c.ip.new.self ≡ c.args.sheet.now ++ string t ∷ [])) (ap ip_text c.put.ensures.written ∙ ip_of_sixteen (sixteen_octets c.args.address) refl) c.ip.ensures
+    subst (λ t. OnOk c.ip.result (c.ip.new.self ≡ c.args.doc.now ++ string t ∷ [])) (ap ip_text c.put.ensures.written ∙ ip_of_sixteen (sixteen_octets c.args.address) refl) c.ip.ensures

@@ -9,7 +9,7 @@ use Rattle.link_base.proofs.Elements.{elements_decode}
 use Rattle.netlink_packet_route.specs.Family.{table_of}
 use Rattle.netlink_packet_route.specs.Views.{family_in, elements_table}
 use Rattle.link_messages.specs.Finding.{Stretch, stretch_of}
-use Rattle.link_messages.specs.Shown.{holder_of, IsKnown, holder_at, ShowsInner, shows_in}
+use Rattle.link_messages.specs.Shown.{nest_of, IsKnown, nest_at, ShowsInner, shows_in}
 use Rattle.link_messages.proofs.Listing.{LeadTo, shown_none}
 use Rattle.link_messages.proofs.Visited.{ItemsTo, Going, opened_shown, nested_shown, single_shown, inner_more, decoded_more, fault_more, items_all, next_within, payload_within, within_room, held_reached, list_payload}
 use Rattle.link_messages.specs.Within.{IsWithin}
@@ -181,8 +181,8 @@ visit_value-returns-in_ok-whole-in-List g t c =
     let (inner, shown, added) = c.in_ok-whole-in-List.ensures in
     let kept : d.omits c.args.context.now family (kind_in x) ≡ false = sym (c.omits.ensures ∙ ap₂ (d.omits c.args.context.now) (ap family_in c.set-family.ensures) c.kind-kind.ensures) ∙ c.if-omits.false in
     let has : HasContent (table_of family) b content = record { decodes = x.decodes; borrows = known.ensures.content; form = known.ensures.form } in
-    let h = holder_of c.held_list-held.result in
-    let is : h ≡ holder_at family None None c.args.at b (contents.List c.in-List.list c.in-List.flagged) =
+    let h = nest_of c.held_list-held.result in
+    let is : h ≡ nest_at family None None c.args.at b (contents.List c.in-List.list c.in-List.flagged) =
     rw (c.set-family.ensures, c.buffer-buffer.ensures, known.ensures.label, c.in-List.is) at c.held_list-held.ensures in
     IfOk-weaker c.end.result _ _
     (λ well closes.
@@ -227,10 +227,10 @@ visit_single-returns-in_ok-whole-in-Some g t c =
     let b = c.args.buffer in
     let content = c.args.known.now.content in
     let set = c.in-Some.set in
-    let h = holder_of c.held_list-held.result in
+    let h = nest_of c.held_list-held.result in
     let answer = rw c.in-Some.is at opened.ensures.answer in
     let some = rw c.in-Some.is at opened.ensures.depth in
-    let is : h ≡ holder_at c.args.family c.args.list (Some set) c.args.at b content = rw c.requires.known.label at c.held_list-held.ensures in
+    let is : h ≡ nest_at c.args.family c.args.list (Some set) c.args.at b content = rw c.requires.known.label at c.held_list-held.ensures in
     IfOk-weaker c.end.result _ _
     (λ well closes.
     let (out, around, written) = closes c.args.writer.now c.begin.new.writer inner c.in_ok-begin-in-Some.ensures added in (

@@ -3,7 +3,7 @@ use Rattle.link_base.specs.Answers.{capped}
 use Rattle.link_entries.specs.Stored.{StoresAt}
 use Rattle.link_requests.specs.Opening.{kinds_of}
 use Rattle.link_requests.specs.Values.{values_of}
-use Rattle.link_entries.proofs.Spellings.{Reached}
+use Rattle.link_entries.proofs.Encodings.{Reached}
 use Rattle.link_requests.proofs.values.+values.Given as goal
 
 abbrev pub decreases-put_values : goal.decreases-put_values

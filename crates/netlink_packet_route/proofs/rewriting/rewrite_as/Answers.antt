@@ -51,7 +51,7 @@ returns-clause-back g c =
     let s = c.args.bytes.now in
     (is_rewritten g.met.F.Attribute.lawful s (IsBytes-index s (λ i. omega (arith, c.type_inv.bytes i))) _ (rewriting c.in_ok-_values.ensures.answer)).back
 
-pub returns-clause-settles : goal.returns-clause-settles
-returns-clause-settles g c =
+pub returns-clause-converges : goal.returns-clause-converges
+returns-clause-converges g c =
     let s = c.args.bytes.now in
-    (is_rewritten g.met.F.Attribute.lawful s (IsBytes-index s (λ i. omega (arith, c.type_inv.bytes i))) _ (rewriting c.in_ok-_values.ensures.answer)).settles
+    (is_rewritten g.met.F.Attribute.lawful s (IsBytes-index s (λ i. omega (arith, c.type_inv.bytes i))) _ (rewriting c.in_ok-_values.ensures.answer)).converges

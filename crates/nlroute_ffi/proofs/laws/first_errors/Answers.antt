@@ -1,4 +1,4 @@
-use Rattle.nlroute_ffi.proofs.FirstErrors.{list_occurs, fault_fits, stored_found, stored_told}
+use Rattle.nlroute_ffi.proofs.FirstErrors.{list_occurs, fault_fits, stored_found, stored_printed}
 use Rattle.nlroute_ffi.proofs.laws.first_errors.Goals as goal
 
 pub returns-clause-listed : goal.returns-clause-listed
@@ -10,5 +10,5 @@ returns-clause-occurs c = list_occurs
 pub returns-clause-stored : goal.returns-clause-stored
 returns-clause-stored c = stored_found
 
-pub returns-clause-told : goal.returns-clause-told
-returns-clause-told c = stored_told
+pub returns-clause-printed : goal.returns-clause-printed
+returns-clause-printed c = stored_printed

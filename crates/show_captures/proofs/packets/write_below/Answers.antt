@@ -1,6 +1,6 @@
 use Rattle.std.proofs.Common.{◌≡◌, List, ℕ, false, subst, ap}
 use Rattle.std.specs.Io.KnownBytes.{Appends}
-use Rattle.link_capture.specs.Told.{captured_of}
+use Rattle.link_capture.specs.Meaning.{captured_of}
 use Rattle.link_show.proofs.MessageLines.{if_ok}
 use Rattle.show_lines.specs.Show.{ShowsBare}
 use Rattle.show_captures.specs.Packet.{ShowsBelow, Route, Short, short_line}

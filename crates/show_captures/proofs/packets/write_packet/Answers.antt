@@ -1,7 +1,7 @@
 use Rattle.std.proofs.Common.{◌++◌, List, ℕ, refl, subst}
 use Rattle.std.specs.Io.KnownBytes.{Appends}
 use Rattle.std.proofs.KnownBytes.{Appends-trans}
-use Rattle.link_capture.specs.Told.{captured_of}
+use Rattle.link_capture.specs.Meaning.{captured_of}
 use Rattle.link_show.proofs.MessageLines.{if_ok}
 use Rattle.show_lines.specs.Pieces.{Grows}
 use Rattle.show_lines.proofs.Pieces.{adds_one, adds_more, if_written}

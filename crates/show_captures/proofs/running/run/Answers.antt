@@ -8,7 +8,7 @@ use Rattle.show_lines.specs.declared.running.Stop.TheVariants.{Memory, Reader, W
 use Rattle.show_lines.specs.Pieces.{AddsPieces, IfWritten}
 use Rattle.show_captures.specs.End.{EndsBy, StopsEarly}
 use Rattle.show_captures.specs.Shower.{shower_of}
-use Rattle.show_captures.proofs.Told.{runs_for, fails_to_flush}
+use Rattle.show_captures.proofs.KnownForm.{runs_for, fails_to_flush}
 use Rattle.show_captures.proofs.running.run.Goals as goal
 
 -- pieces, and then the last words

@@ -1,7 +1,7 @@
 use Rattle.std.specs.Io.Buffered.{writer_contents}
 use Rattle.link_show.proofs.MessageLines.{if_ok}
 use Rattle.show_captures.specs.Shower.{shower_of}
-use Rattle.show_captures.proofs.Told.{from_capture, from_lines}
+use Rattle.show_captures.proofs.KnownForm.{from_capture, from_lines}
 use Rattle.show_captures.proofs.running.show_from.Goals as goal
 
 pub returns-in-Some-clause-shown : goal.returns-in-Some-clause-shown

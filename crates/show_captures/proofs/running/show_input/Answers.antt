@@ -5,7 +5,7 @@ use Rattle.show_lines.specs.Pieces.{AddsPieces}
 use Rattle.show_captures.specs.Run.{RunsFrom, RunsFor, input_form}
 use Rattle.show_captures.specs.Shower.{shower_of}
 use Rattle.show_lines.proofs.Pieces.{adds_more, kept_adds}
-use Rattle.show_captures.proofs.Told.{runs_on, runs_out, runs_other, status_ok, status_other, status_written}
+use Rattle.show_captures.proofs.KnownForm.{runs_on, runs_out, runs_other, status_ok, status_other, status_written}
 use Rattle.std.specs.Io.KnownBytes.{Keeps}
 use Rattle.show_lines.proofs.Pieces.{adds_none, if_written}
 use Rattle.show_captures.proofs.running.show_input.Goals as goal
@@ -48,7 +48,7 @@ returns-clause-shown g c =
     let same = c.as_slice-bytes.ensures.value in
     let is : input_form c.args.raw bytes ≡ Ok form = sym (ap (input_form c.args.raw) same) ∙ (sym c.form_of.ensures ∙ c.in-Ok-form_of.is) in
     status_ok (λ whole. if whole then 0 else 1) (RunsFrom shower form c.as_slice-bytes.result.now s t v u) (RunsFor shower c.args.raw r t w u) c.show_from-2.result c.status_of-2.result c.status_of-2.ensures
-    (λ whole h. runs_on {shower = shower} c.args.raw form bytes r s t w v u whole is c.in-Ok-read_first.ensures.read c.in-Ok-read_first.ensures.kept (c.in-Ok-read_first.ensures.told c.if-first.false)
+    (λ whole h. runs_on {shower = shower} c.args.raw form bytes r s t w v u whole is c.in-Ok-read_first.ensures.read c.in-Ok-read_first.ensures.kept (c.in-Ok-read_first.ensures.known c.if-first.false)
     (subst (λ l. RunsFrom shower form l s t v u whole) same h)) c.show_from-2.ensures.shown
 
 pub returns-clause-pieces : goal.returns-clause-pieces
@@ -70,7 +70,7 @@ returns-in-Err-form_of-clause-shown g c =
     let u = contents c.show_format.new.writer in
     let is : input_form c.args.raw first.bytes.items ≡ Err format = sym (ap (input_form c.args.raw) c.as_slice-bytes.ensures.value) ∙ (sym c.form_of.ensures ∙ c.in-Err-form_of.is) in
     status_other 2 (Appends v u (shower.units.formats format)) (RunsFor shower c.args.raw r s w u) c.show_format.result c.status_of_other.result c.status_of_other.ensures
-    (λ written. runs_other {shower = shower} c.args.raw first.is_last format first.bytes.items r s w v u is c.in-Ok-read_first.ensures.read c.in-Ok-read_first.ensures.last c.in-Ok-read_first.ensures.told c.in-Ok-read_first.ensures.kept written) c.show_format.ensures.shown
+    (λ written. runs_other {shower = shower} c.args.raw first.is_last format first.bytes.items r s w v u is c.in-Ok-read_first.ensures.read c.in-Ok-read_first.ensures.last c.in-Ok-read_first.ensures.known c.in-Ok-read_first.ensures.kept written) c.show_format.ensures.shown
 
 pub returns-in-Err-form_of-clause-pieces : goal.returns-in-Err-form_of-clause-pieces
 returns-in-Err-form_of-clause-pieces g c =

@@ -1,6 +1,6 @@
 use Rattle.std.proofs.Common.{IfOk, List, ℕ, subst}
 use Rattle.std.specs.Io.KnownBytes.{Appends}
-use Rattle.link_capture.specs.Told.{captured_of}
+use Rattle.link_capture.specs.Meaning.{captured_of}
 use Rattle.show_lines.proofs.Pieces.{adds_none}
 use Rattle.show_captures.proofs.units.write_event.Goals as goal
 

@@ -3,7 +3,7 @@ use Rattle.link_capture.specs.Unit.{Follows, IsUnit, IsError}
 use Rattle.std.proofs.KnownBytes.{Appends-nil, Appends-trans}
 use Rattle.std.proofs.lemmas.List.{drop-drop}
 use Rattle.std.specs.Io.KnownBytes.{Appends}
-use Rattle.link_capture.specs.Told.{told_of}
+use Rattle.link_capture.specs.Meaning.{meaning_of}
 use Rattle.link_show.proofs.MessageLines.{if_ok}
 use Rattle.show_captures.specs.declared.units.Turn.TheVariants.{Done}
 use Rattle.show_captures.specs.Event.{end_line}
@@ -11,7 +11,7 @@ use Rattle.show_captures.specs.Progress.{Passes, WritesUnits}
 use Rattle.show_captures.proofs.Passing.{passes_none, passes_one, passes_both, finishes_wrong}
 use Rattle.show_lines.specs.Pieces.{AddsPieces}
 use Rattle.show_lines.proofs.Pieces.{adds_none, adds_more, if_written}
-use Rattle.link_capture.specs.Told.{State}
+use Rattle.link_capture.specs.Meaning.{State}
 use Rattle.link_capture.specs.Unit.{IsTooShort}
 use Rattle.show_captures.specs.declared.place.Place.{Place}
 use Rattle.show_captures.proofs.units.write_units.Goals as goal
@@ -54,13 +54,13 @@ loop-error-preserved g c =
     let v = g.W.Write.contents c.loop-error.writer in
     let u = g.W.Write.contents c.write_unit.new.writer in
     let before = c.loop-error.invariant in
-    let unit = subst (λ l. (0 < c.in-Unit.size) × (c.in-Unit.size ≤ length l) × ((more : List ℕ) → Follows c.args.is_last more → IsUnit c.loop-error.place.capture (l ++ more) (told_of c.in-Unit.event) c.in-Unit.size c.next.new.self)) c.rest_of.ensures c.in-Unit.ensures in
+    let unit = subst (λ l. (0 < c.in-Unit.size) × (c.in-Unit.size ≤ length l) × ((more : List ℕ) → Follows c.args.is_last more → IsUnit c.loop-error.place.capture (l ++ more) (meaning_of c.in-Unit.event) c.in-Unit.size c.next.new.self)) c.rest_of.ensures c.in-Unit.ensures in
     let shown = c.in-Ok.ensures.shown in
     let bytes = c.args.bytes.now in
     let used = c.loop-error.used in
     let size = c.in-Unit.size in
     let one = passes_one {shower = g.S.ShowUnits.units c.args.shown.now} c.args.is_last c.loop-error.place (record { capture = c.next.new.self; at = c.loop-error.place.at; packets = c.loop-error.place.packets }) c.write_unit.new.place (drop used bytes) shown.0.0 size
-    (told_of c.in-Unit.event) c.in-Ok.read (refl, refl) unit.1 unit.2 shown.1 shown.0.1 in (
+    (meaning_of c.in-Unit.event) c.in-Ok.read (refl, refl) unit.1 unit.2 shown.1 shown.0.1 in (
       omega (arith, unit.1, before.0, length-drop used bytes),
       (
         before.1.0 ++ shown.0.0,

@@ -6,11 +6,11 @@ use Rattle.show_lines.proofs.Requests.{is_run}
 use Rattle.show_lines.proofs.arguments.parse.Goals as goal
 
 pub returns-in_ok-named-in-Ok-clause-request : goal.returns-in_ok-named-in-Ok-clause-request
-returns-in_ok-named-in-Ok-clause-request c = IfOk-weaker c.settled.result _ _ (is_run c.chosen.result c.lines_in.result _ _) c.settled.ensures
+returns-in_ok-named-in-Ok-clause-request c = IfOk-weaker c.request_for.result _ _ (is_run c.chosen.result c.lines_in.result _ _) c.request_for.ensures
 
 pub returns-in_ok-named-in-Ok-clause-asked : goal.returns-in_ok-named-in-Ok-clause-asked
 returns-in_ok-named-in-Ok-clause-asked c =
-    IfOk-weaker c.settled.result _ _ (λ r runs. found (app_of c.in_ok-command.field-0) (map string_bytes c.as_slice.result.now) (map string_bytes c.args.arguments.now.items) r c.in_ok-command.ensures (ap (map string_bytes) c.as_slice.ensures.value)
+    IfOk-weaker c.request_for.result _ _ (λ r runs. found (app_of c.in_ok-command.field-0) (map string_bytes c.as_slice.result.now) (map string_bytes c.args.arguments.now.items) r c.in_ok-command.ensures (ap (map string_bytes) c.as_slice.ensures.value)
     c.in-Ok.matches c.in-Ok.ensures.kinds c.in-Ok.ensures.matches (record {
       lines = c.lines_in.result;
       raw = c.get_flag.result;
@@ -20,7 +20,7 @@ returns-in_ok-named-in-Ok-clause-asked c =
       is_raw = (c.get_flag.ensures.none, c.get_flag.ensures.value, c.get_flag.ensures.other);
       named = c.in_ok-named-in-Ok.ensures;
       runs = rw (← c.chosen.ensures) runs;
-    })) c.settled.ensures
+    })) c.request_for.ensures
 
 pub returns-in-Err-clause-asked : goal.returns-in-Err-clause-asked
 returns-in-Err-clause-asked c =

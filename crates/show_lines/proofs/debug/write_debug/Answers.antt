@@ -26,9 +26,9 @@ returns-in-Messages-clause-shown g c =
 
 pub returns-in-Attributes-clause-shown : goal.returns-in-Attributes-clause-shown
 returns-in-Attributes-clause-shown g c =
-    rw c.in-Attributes.is (pushed (Attributes c.in-Attributes.family) c.args.bytes.now c.args.text.now (string_bytes c.new-below.result) (string_bytes c.push_holder-read.new.text) c.as_str-in-Attributes.result.now
-    (g.W.Write.contents c.args.writer.now) (g.W.Write.contents c.write_pushed-in-Attributes.new.writer) c.push_holder-read.result c.write_pushed-in-Attributes.result c.new-below.ensures.bytes c.as_str-in-Attributes.ensures.value
-    c.push_holder-read.ensures c.write_pushed-in-Attributes.ensures.shown)
+    rw c.in-Attributes.is (pushed (Attributes c.in-Attributes.family) c.args.bytes.now c.args.text.now (string_bytes c.new-below.result) (string_bytes c.push_lists-read.new.text) c.as_str-in-Attributes.result.now
+    (g.W.Write.contents c.args.writer.now) (g.W.Write.contents c.write_pushed-in-Attributes.new.writer) c.push_lists-read.result c.write_pushed-in-Attributes.result c.new-below.ensures.bytes c.as_str-in-Attributes.ensures.value
+    c.push_lists-read.ensures c.write_pushed-in-Attributes.ensures.shown)
 
 -- a check is the same in both forms
 pub returns-clause-shown : goal.returns-clause-shown

@@ -1,6 +1,6 @@
 use Rattle.std.proofs.Common.{◌≡◌, ◌-◌, length, map, take, drop, arith, ap, refl}
 use Rattle.std.proofs.lemmas.List.{length-take, length-drop, length-append}
-use Rattle.link_base.specs.Frame.{frame_bytes, spelled}
+use Rattle.link_base.specs.Frame.{frame_bytes, bytes_of_frames}
 use Rattle.link_base.specs.Wire.{whole}
 use Rattle.link_base.specs.Table.{addresses_from}
 use Rattle.link_base.specs.Held.{IsOctets}
@@ -37,7 +37,7 @@ loop-i-preserved g c =
     let more = addresses_more octets n law.sized xs i x c.loop-i-test.true c.index-addresses-i.is in
     let room = addresses_room octets n law.sized xs i x c.loop-i-test.true in
     let at = c.loop-i.at in
-    let text = spelled (addresses_from 0 (map octets (take i xs))) in
+    let text = bytes_of_frames (addresses_from 0 (map octets (take i xs))) in
     let frame = frame_bytes (whole i (octets x)) in
     let len = length-whole_bytes i (octets x) in
     let both = length-append text frame in

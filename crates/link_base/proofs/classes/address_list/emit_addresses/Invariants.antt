@@ -1,6 +1,6 @@
 use Rattle.std.proofs.Common.{◌≡◌, length, take, map}
 use Rattle.std.specs.List.{AllByRecursion}
-use Rattle.link_base.specs.Frame.{spelled}
+use Rattle.link_base.specs.Frame.{bytes_of_frames}
 use Rattle.link_base.specs.Table.{addresses_from}
 use Rattle.link_base.specs.Held.{IsOctets}
 use Rattle.link_base.specs.Answers.{OverwritesFront}
@@ -10,7 +10,7 @@ abbrev pub invariant-loop-i : goal.invariant-loop-i
 invariant-loop-i g l =
     let octets = map g.A.Address.octets (take l.i l.addresses) in
     record {
-      written : OverwritesFront l.fn.buffer l.buffer (spelled (addresses_from 0 octets));
-      at : l.at ≡ length (spelled (addresses_from 0 octets));
+      written : OverwritesFront l.fn.buffer l.buffer (bytes_of_frames (addresses_from 0 octets));
+      at : l.at ≡ length (bytes_of_frames (addresses_from 0 octets));
       in_range : AllByRecursion (IsOctets g.A.Address.SIZE) octets;
     }

@@ -18,7 +18,7 @@ loop-rest-init g c =
     let less = split_less s first c.args.after.now c.requires.first in
     let some : s ≢ [] = λ e. let none = ap length e in absurd (omega (arith, less, none)) in
     passes_more gives s 0 s c.args.after.now (kind_field_of first) (payload_of first) (passes_none gives s) some (split_of s first c.args.after.now c.requires.first)
-    (c.requires.settles (kind_field_of first) (inr refl) (payload_of first) refl)
+    (c.requires.all_decode (kind_field_of first) (inr refl) (payload_of first) refl)
 
 pub overflow_add-count : goal.overflow_add-count
 overflow_add-count g c =
@@ -41,4 +41,4 @@ loop-rest-preserved g c =
     let some : rest ≢ [] = λ e. let none = ap length e in absurd (omega (arith, room, none)) in
     let size : length p ≡ n = omega (arith, room, length-take n (drop 4 rest), length-drop 4 rest) in
     passes_more gives s c.loop-rest.count rest c.split_at.result.1.now f p c.loop-rest.invariant some (subst (Splits rest f p) next split)
-    (c.requires.settles f (c.if-is_alike.ensures.kind refl) p size)
+    (c.requires.all_decode f (c.if-is_alike.ensures.kind refl) p size)
