@@ -1,14 +1,16 @@
 #!/usr/bin/env python3
 """Writes crates/nlroute_ffi/include/nlroute_kinds.h: the attribute types, by the kernel's names, each with the form of its
-values, what its number counts, and whether it is read-only or write-only, which the comments of variants say.
+values, what its number counts, and whether it is read-only or write-only, which the comments of variants say. And beside it
+nlroute_numbers.h, as tools/numbers_of_enums.py says: the numbers and flags that have names.
 
 usage: tools/kinds.py [--check | --compare]
 
 The types are those of the tables in specs/, whose rows are what the contracts cover. A row names its payloads by a word
 of link_base/specs/Payloads.antt, which has the form; of a struct, the row has the layout too.
 
-With --check it says whether the header is what would be written, and ends with 'N passed, M failed'; CI does this. With
---compare, each type that the kernel's headers of this machine have is compared with theirs, by the C compiler.
+With --check it says whether the headers are what would be written, and no constant is in two of them or twice, and ends with
+'N passed, M failed'; CI does this. With --compare, each type, number and flag that the kernel's headers of this machine have is
+compared with theirs, by the C compiler.
 """
 import re
 import subprocess
@@ -16,6 +18,7 @@ import sys
 import textwrap
 
 sys.dont_write_bytecode = True
+import numbers_of_enums as numbers  # noqa: E402
 from families import families  # noqa: E402
 from pages import ROOT, Tree  # noqa: E402
 
@@ -39,7 +42,10 @@ UNITS = {
     "": "", "Mask": "", "ClockTicks": "1/100 s", "Milliseconds": "ms", "Seconds": "s", "Nanoseconds": "ns",
     "BitsPerSecond": "bit/s", "Ohms": "ohms", "Hertz": "Hz", "InterfaceIndex": "interface index",
 }  # fmt: skip
-KERNEL = "#include <linux/if_link.h>\n#include <linux/if_bridge.h>\n#include <linux/can/netlink.h>\n#include <linux/devlink.h>\n#include <linux/veth.h>\n"
+KERNEL = "".join(
+    f"#include <linux/{it}.h>\n"
+    for it in "if_link if_bridge can/netlink devlink veth if if_addr if_bonding if_ether if_tun if_vlan rtnetlink".split()
+)
 TOP = """\
 /*
  * The attribute types that the library knows, by the names of the kernel's headers with NLROUTE_ before them, each with the
@@ -77,6 +83,15 @@ def tables():
             yield f"elements of {' and '.join(names)}", [*rows(table)]
 
 
+def tables_of_sets(tree):
+    """The names of the tables of each attribute set, and of its nested lists."""
+    for family in families(tree.text):
+        yield family["table"]
+        for _, _, shape in tree.tables[family["table"]].values():
+            if shape.startswith("Nested "):
+                yield shape.split()[-1]
+
+
 def text():
     """The text of the header."""
     parts, known = [TOP], {}
@@ -111,15 +126,36 @@ def places(known):
         yield f"/* Places of the array {name}. */\nenum {{\n{lines}\n}};\n"
 
 
+def headers():
+    """The texts of the headers that this writes, by their paths."""
+    tree = Tree(ROOT)
+    return {HEADER: text(), numbers.HEADER: numbers.text(tree, tables_of_sets(tree))}
+
+
 def compare():
-    """Compares the types with those of the kernel's headers of this machine."""
-    rows = {name for _, found in tables() for _, name, _ in found}
-    ran = subprocess.run(["cc", "-E", "-P", "-x", "c", "-"], input=KERNEL, stdout=subprocess.PIPE, text=True, check=True)
-    both = sorted(rows & {*re.findall(r"\b[A-Z][A-Z0-9_]+\b", ran.stdout)})
+    """Compares types, numbers and flags with those of the kernel's headers of this machine."""
+    tree = Tree(ROOT)
+    ours = {name for _, found in tables() for _, name, _ in found} | {*numbers.constants(tree, tables_of_sets(tree))}
+    words = ["cc", "-E", "-P", "-x", "c", "-"], ["cc", "-E", "-dM", "-x", "c", "-"]
+    said = [subprocess.run(it, input=KERNEL, stdout=subprocess.PIPE, text=True, check=True).stdout for it in words]
+    both = sorted(ours & {*re.findall(r"\b[A-Z][A-Z0-9_]+\b", "".join(said))})
     asserts = "".join(f'_Static_assert(NLROUTE_{it} == {it}, "{it}");\n' for it in both)
-    source = f'{KERNEL}#include "{ROOT}/{HEADER}"\n{asserts}'
-    subprocess.run(["cc", "-std=c11", "-fsyntax-only", "-x", "c", "-"], input=source, text=True, check=True)
-    print(f"kinds: the kernel's headers of this machine have {len(both)} of {len(rows)}, with the same numbers")
+    source = f'{KERNEL}#include "{ROOT}/{HEADER}"\n#include "{ROOT}/{numbers.HEADER}"\n{asserts}'
+    subprocess.run(["cc", "-std=gnu11", "-fsyntax-only", "-x", "c", "-"], input=source, text=True, check=True)
+    print(f"kinds: the kernel's headers of this machine have {len(both)} of {len(ours)}, with the same numbers")
+
+
+def check():
+    """Says what is wrong with the headers."""
+    tree, wanted = Tree(ROOT), headers()
+    wrong = [f"{path}: it is not what tools/kinds.py writes: run that" for path, it in wanted.items() if tree.text_or_none(path) != it]
+    folder = HEADER.rpartition("/")[0]
+    all_texts = [wanted.get(f"{folder}/{it}") or tree.text(f"{folder}/{it}") for it in numbers.HEADERS]
+    twice = [f"{it}: two headers have it, or one has it twice" for it in numbers.repeated(all_texts)]
+    print("".join(f"{it}\n" for it in [*wrong, *twice]), end="")
+    failed = len(wrong) + bool(twice)
+    print(f"{len(wanted) + 1 - failed} passed, {failed} failed")
+    return failed > 0
 
 
 def main():
@@ -127,16 +163,13 @@ def main():
     if option == "--compare":
         compare()
     elif option == "--check":
-        is_same = Tree(ROOT).text(HEADER) == text()
-        if not is_same:
-            print(f"{HEADER}: it is not what tools/kinds.py writes: run that")
-        print(f"{int(is_same)} passed, {int(not is_same)} failed")
-        sys.exit(not is_same)
+        sys.exit(check())
     elif option:
         sys.exit(__doc__)
     else:
-        with open(f"{ROOT}/{HEADER}", "w", encoding="utf-8") as file:
-            file.write(text())
+        for path, it in headers().items():
+            with open(f"{ROOT}/{path}", "w", encoding="utf-8") as file:
+                file.write(it)
 
 
 if __name__ == "__main__":

@@ -98,6 +98,7 @@ nlroute \\- parse, print, write and check lists of netlink link attributes
 .nf
 .B #include <nlroute.h>
 .B #include <nlroute_kinds.h>
+.B #include <nlroute_numbers.h>
 .B #include <nlroute_requests.h>
 .PP
 .B cc main.c $(pkg\\-config \\-\\-cflags \\-\\-libs nlroute)

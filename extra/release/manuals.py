@@ -35,7 +35,7 @@ COMMENT = re.compile(r"^<!--.*-->\n|<!--.*?-->", re.MULTILINE)
 
 def common():
     """Returns where files are in a release and, below usr, in the Debian packages, by their paths in this repository."""
-    headers = ["nlroute.h", "nlroute_kinds.h", "nlroute_requests.h"]
+    headers = ["nlroute.h", "nlroute_kinds.h", "nlroute_numbers.h", "nlroute_requests.h"]
     places = {f"crates/nlroute_ffi/include/{it}": f"include/{it}" for it in headers}
     return places | {"docs/nlshow.jq": "share/jq/nlshow.jq"}
 

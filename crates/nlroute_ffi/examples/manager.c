@@ -32,7 +32,7 @@ static void make_bond(void) {
     const struct nlroute_value bond[] = {
         nlroute_name("bond0"),
         NLROUTE_DATA("bond"),
-        nlroute_below(2, nlroute_number(NLROUTE_IFLA_BOND_MODE, 4)), /* 802.3ad */
+        nlroute_below(2, nlroute_number(NLROUTE_IFLA_BOND_MODE, NLROUTE_BOND_MODE_8023AD)),
         nlroute_below(2, nlroute_number(NLROUTE_IFLA_BOND_MIIMON, 100)),
         nlroute_below(2, nlroute_number(NLROUTE_IFLA_BOND_XMIT_HASH_POLICY, 1)), /* layer3+4 */
     };

@@ -25,7 +25,7 @@ static void make_bond(struct written *it, const char *name) {
     const struct nlroute_value bond[] = {
         nlroute_name(name),
         NLROUTE_DATA("bond"),
-        nlroute_below(2, nlroute_number(NLROUTE_IFLA_BOND_MODE, 4)),
+        nlroute_below(2, nlroute_number(NLROUTE_IFLA_BOND_MODE, NLROUTE_BOND_MODE_8023AD)),
         nlroute_below(2, nlroute_number(NLROUTE_IFLA_BOND_MIIMON, 100)),
     };
     write_values(it, nlroute_create(), NLROUTE_VALUES(bond));

@@ -62,6 +62,7 @@ prints() {
 cat >"$room/headers.c" <<'END'
 #include "nlroute.h"
 #include "nlroute_kinds.h"
+#include "nlroute_numbers.h"
 #include "nlroute_requests.h"
 
 ptrdiff_t measured(size_t *at);
@@ -69,7 +70,7 @@ ptrdiff_t requested(uint8_t *out, size_t room, size_t *at);
 
 ptrdiff_t measured(size_t *at)
 {
-    struct nlroute_value value = nlroute_flags(NLROUTE_IFLA_VLAN_FLAGS, 2, 2);
+    struct nlroute_value value = nlroute_flags(NLROUTE_IFLA_VLAN_FLAGS, NLROUTE_VLAN_FLAG_GVRP, 2);
     return value.mask == value.second ? nlroute_measure(NLROUTE_VLAN, &value, 1, NLROUTE_NO_OCTETS, at) : -1;
 }
 

@@ -34,9 +34,10 @@
  * to be freed. What a function allocates with malloc() and realloc(), it frees before it returns (not proved). Different
  * threads may call the functions at the same time.
  *
- * nlroute_kinds.h has the attribute types by the kernel's names, and nlroute_requests.h writes requests. The headers are
- * C99, and C++11 or later. No function has the name of a struct: nlroute_read_message() stores a struct nlroute_message,
- * and nlroute_make_head() returns a struct nlroute_head. So C++ needs no `struct`, as in `nlroute_message message;`.
+ * nlroute_kinds.h has the attribute types by the kernel's names, nlroute_numbers.h the numbers of enums and the flags, and
+ * nlroute_requests.h writes requests. The headers are C99, and C++11 or later. No function has the name of a struct:
+ * nlroute_read_message() stores a struct nlroute_message, and nlroute_make_head() returns a struct nlroute_head. So C++ needs
+ * no `struct`, as in `nlroute_message message;`.
  *
  * Compile with pkg-config, once the library is installed:
  * cc main.c $(pkg-config --cflags --libs nlroute)
@@ -226,8 +227,7 @@ enum nlroute_form {
     NLROUTE_FORM_BOOL = 2,             /* number: 0 or 1; of a flag that may have no payload, length: 0 or 1 */
     NLROUTE_FORM_UNSIGNED = 3,         /* number */
     NLROUTE_FORM_SIGNED = 4,           /* number, as (int64_t)number */
-    NLROUTE_FORM_NAMED = 5,            /* number: of an enum, such as 4 for BOND_MODE_8023AD of linux/if_bonding.h;
-                                          nlroute_number_of() finds it by its name */
+    NLROUTE_FORM_NAMED = 5,            /* number: of an enum (nlroute_numbers.h) */
     NLROUTE_FORM_FLAGS = 6,            /* number: a set of flags */
     NLROUTE_FORM_MASKED = 7,           /* number: a set of flags; mask: its mask */
     NLROUTE_FORM_MAC = 8,              /* octets: 6 */
@@ -512,9 +512,9 @@ ptrdiff_t nlroute_measure(uint32_t family, const struct nlroute_value *values, s
 
 /*
  * Stores the name of an attribute type: the kernel's constant, such as "IFLA_BR_FORWARD_DELAY", or "type 99" if the
- * type is not known. The fields kind, inner and depth of the value select the type. A number of an array has a place in
- * place of a type: the name of the place, such as "rx_packets", or its index if it has none: "[3]". An address of a list has
- * an index, too. Returns no error but NLROUTE_NO_FAMILY.
+ * type is not known. The fields kind, inner and depth of the value select the type; there is none at a depth greater than
+ * 1. A number of an array has a place in place of a type: the name of the place, such as "rx_packets", or its index if it has
+ * none: "[3]". An address of a list has an index, too. Returns no error but NLROUTE_NO_FAMILY.
  */
 ptrdiff_t nlroute_kind_name(uint32_t family, const struct nlroute_value *value, char *text, size_t room);
 
@@ -522,6 +522,10 @@ ptrdiff_t nlroute_kind_name(uint32_t family, const struct nlroute_value *value, 
  * Stores the text of a value, as nlshow prints it after the name: "1500 (15.00 s)", "802.3ad (4)",
  * "02:00:00:00:00:01", "flags GVRP mask GVRP", "freq 8000000 Hz". For an element it is the text of the element only:
  * "120 ohm", "10.0.0.1". It is "" for a list and for NLROUTE_FORM_EMPTY, and "hex dead" for NLROUTE_FORM_UNKNOWN.
+ *
+ * For NLROUTE_FORM_HELD and NLROUTE_FORM_PEER it is "(24 bytes, not decoded)", as nlshow prints a list that no set reads.
+ * If a set reads it, nlshow prints its attributes instead, each in a line of its own. Before those of a peer it prints fields
+ * of the header, as "ifindex 0". They are no part of the text: they are in the first 16 bytes at offset.
  *
  * The text is that of what nlroute_write() writes for the value, so what it is going to write can be printed; a value
  * that it refuses has no text. The same fields matter, and NLROUTE_FORM_OF_KIND stands for the form of the attribute
@@ -544,7 +548,8 @@ ptrdiff_t nlroute_text(uint32_t family, const struct nlroute_value *value, const
  * Stores the name of the number of a value, such as "802.3ad". The fields kind, inner and depth select the attribute
  * type. Numbers of NLROUTE_FORM_NAMED have names.
  *
- * Returns NLROUTE_ABSENT if and only if the number has no name.
+ * Returns NLROUTE_ABSENT if and only if the number has no name: also if depth is greater than 1, or if it is 1 and the
+ * values of type kind have no elements.
  */
 ptrdiff_t nlroute_number_name(uint32_t family, const struct nlroute_value *value, char *text, size_t room);
 
@@ -552,7 +557,7 @@ ptrdiff_t nlroute_number_name(uint32_t family, const struct nlroute_value *value
  * Stores the name of a bit of the flags of an attribute type, such as "LACP_ACTIVITY" for bit 0. The fields kind,
  * inner and depth of the value select the type.
  *
- * Returns NLROUTE_ABSENT if and only if the bit has no name.
+ * Returns NLROUTE_ABSENT if and only if the bit has no name, as nlroute_number_name() for a number.
  */
 ptrdiff_t nlroute_flag_name(uint32_t family, const struct nlroute_value *value, uint32_t bit, char *text, size_t room);
 
@@ -613,7 +618,8 @@ ptrdiff_t nlroute_kind_of_in(uint32_t family, uint16_t list, const char *name, s
  * "LACP_ACTIVITY" or "rx_packets", in *number, and returns 0. The fields kind, inner and depth of the value select the type,
  * as for nlroute_number_name().
  *
- * Returns NLROUTE_ABSENT if and only if no number of the type has the name; *number is then unchanged.
+ * Returns NLROUTE_ABSENT if and only if no number of the type has the name: also if depth is greater than 1, or if it is
+ * 1 and the values of type kind have no elements. *number is then unchanged.
  */
 NLROUTE_MUST_USE
 ptrdiff_t nlroute_number_of(uint32_t family, const struct nlroute_value *value, const char *name, size_t len,

@@ -22,6 +22,7 @@
 
 #include "nlroute.h"
 #include "nlroute_kinds.h"
+#include "nlroute_numbers.h"
 
 #ifdef __cplusplus
 extern "C" {

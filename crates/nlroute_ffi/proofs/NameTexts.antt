@@ -57,16 +57,17 @@ module _ (test : Label → Bool) where
     by_row (Some r) row = row_passes (λ q. elements_pass (Some q.class)) 0 table k r h row
 
   type_passes : (family : Family) → types_pass (table_of family) ≡ true → (e : Entry) (label : Label) → label_for family e ≡ Some label → test label ≡ true
-  type_passes family h e label at = by_test ((e.depth == 0) || is_indexed family e) at where
+  type_passes family h e label at = by_test ((e.depth == 0) || is_indexed family e) (e.depth == 1) at where
     table : Table
     table = table_of family
 
     both : (rows_pass table ≡ true) × (are_rows (λ r. elements_pass (Some r.class)) 0 table ≡ true)
     both = and_parts (rows_pass table) (are_rows (λ r. elements_pass (Some r.class)) 0 table) h
 
-    by_test : (b : Bool) → cond b (label_at table e.kind) (label_at (elements_at table e.kind) e.inner) ≡ Some label → test label ≡ true
-    by_test true at = label_passes table e.kind label both.0 at
-    by_test false at = label_passes (elements_at table e.kind) e.inner label (nested_pass table e.kind both.1) at
+    by_test : (b one : Bool) → cond b (label_at table e.kind) (cond one (label_at (elements_at table e.kind) e.inner) None) ≡ Some label → test label ≡ true
+    by_test true one at = label_passes table e.kind label both.0 at
+    by_test false true at = label_passes (elements_at table e.kind) e.inner label (nested_pass table e.kind both.1) at
+    by_test false false at = absurd cc
 
 -- ---- numbers
 

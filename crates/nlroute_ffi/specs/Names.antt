@@ -1,5 +1,5 @@
 -- The version, and the names of attribute types, of the numbers of enums, and of the bits of sets of flags.
-use Rattle.std.specs.Prelude.{ℕ, ◌^◌, ◌==◌, ◌&&◌, ◌||◌, Bool, true, false, not, List, [], ◌++◌, Option, Some, None, Result, Ok, Err, codes, nat_lt, if◌then◌else◌}
+use Rattle.std.specs.Prelude.{ℕ, ◌^◌, ◌==◌, ◌&&◌, ◌||◌, Bool, true, false, List, [], ◌++◌, Option, Some, None, Result, Ok, Err, codes, nat_lt, if◌then◌else◌}
 use Rattle.std.specs.Fmt.{decimal}
 use Rattle.link_base.specs.declared.rows.form.Form.{Form}
 use Rattle.link_base.specs.declared.rows.form.Form.TheVariants as forms
@@ -32,13 +32,15 @@ holds_indices (Some label) = has_indices label.form
 
 -- an address of a list, or a number of an array
 abbrev pub is_indexed : Family → Entry → Bool
-is_indexed family e = not (e.depth == 0) && holds_indices (label_at (table_of family) e.kind)
+is_indexed family e = (e.depth == 1) && holds_indices (label_at (table_of family) e.kind)
 
--- what is known of the type of an attribute, or of an element; an address or a number has that of its list
+-- what is known of the type of an attribute, or of an element; an address or a number has that of its list. Elements have none,
+-- so there are no types at greater depths
 abbrev pub label_for : Family → Entry → Option Label
 label_for family e =
     if (e.depth == 0) || is_indexed family e then label_at (table_of family) e.kind
-    else label_at (elements_at (table_of family) e.kind) e.inner
+    else (if e.depth == 1 then label_at (elements_at (table_of family) e.kind) e.inner
+    else None)
 
 -- the type of an attribute, or of an element
 abbrev pub own_kind : Entry → ℕ

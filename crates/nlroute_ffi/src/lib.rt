@@ -344,8 +344,8 @@ pub extern "C" fn nlroute_request(
     answer_of(store_request(head, values, octets, out, at))
 }
 
-/// Stores the name of the attribute type of `value`, such as `IFLA_BR_FORWARD_DELAY`, or `type 99` if the type has no row;
-/// for an address of a list or a number of an array, it is its index, such as `[3]`.
+/// Stores the name of the attribute type of `value`, such as `IFLA_BR_FORWARD_DELAY`, or `type 99` if the type has no row, as
+/// at a depth greater than 1; for an address of a list or a number of an array, it is its index, such as `[3]`.
 #[unsafe(no_mangle)]
 pub extern "C" fn nlroute_kind_name(family: u32, value: &Entry, out: &mut [u8]) -> isize
     ensures answer { AnswersBy family (KindNameAnswers value.now out.old out.new) result }
@@ -374,7 +374,7 @@ pub extern "C" fn nlroute_text(family: u32, value: &Entry, octets: &[u8], out: &
 ///
 /// # Errors
 ///
-/// -6 if the number has no name.
+/// -6 if the number has no name, as at a depth greater than 1.
 #[unsafe(no_mangle)]
 pub extern "C" fn nlroute_number_name(family: u32, value: &Entry, out: &mut [u8]) -> isize
     ensures answer { AnswersBy family (NumberNameAnswers value.now out.old out.new) result }
@@ -387,7 +387,7 @@ pub extern "C" fn nlroute_number_name(family: u32, value: &Entry, out: &mut [u8]
 ///
 /// # Errors
 ///
-/// -6 if the bit has no name.
+/// -6 if the bit has no name, as at a depth greater than 1.
 #[unsafe(no_mangle)]
 pub extern "C" fn nlroute_flag_name(family: u32, value: &Entry, bit: u32, out: &mut [u8]) -> isize
     ensures answer { AnswersBy family (FlagNameAnswers value.now bit out.old out.new) result }
@@ -490,7 +490,7 @@ pub extern "C" fn nlroute_read_row(
 ///
 /// # Errors
 ///
-/// -6 if there is none.
+/// -6 if there is none, as at a depth greater than 1.
 #[unsafe(no_mangle)]
 pub extern "C" fn nlroute_number_of(
     family: u32,

@@ -89,13 +89,16 @@ pub(crate) fn store_flag_name(
 }
 
 /// Returns what is known of the type of an attribute or an element; for an address of a list or a number of an array,
-/// that of its list. `None` if no row has the type.
+/// that of its list. `None` if no row has the type, or if the depth is greater than 1.
 pub(crate) fn label_of(family: Family, value: &Entry) -> Option<KindLabel>
     ensures { label_in result ≡ label_for family value.now }
 {
     if value.depth == 0 || is_indexed(family, value) {
         let set = FamilySet { family };
         return set.label(value.kind);
+    }
+    if value.depth > 1 {
+        return None;
     }
     let elements = FamilyElements {
         family,
@@ -108,7 +111,7 @@ pub(crate) fn label_of(family: Family, value: &Entry) -> Option<KindLabel>
 fn is_indexed(family: Family, value: &Entry) -> bool
     ensures { result ≡ is_indexed family value.now }
 {
-    if value.depth == 0 {
+    if value.depth != 1 {
         return false;
     }
     let set = FamilySet { family };

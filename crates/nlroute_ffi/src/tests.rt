@@ -466,6 +466,18 @@ fn texts(rt: HostRuntime) {
         let is_so = holds_text(answer, &out, wanted);
         holds_of(&rt, is_so, wanted);
     }
+    // a list of another set, and a peer: no attribute, and no field of the header
+    for (family, kind, form) in [(11, 26, 21), (24, 1, 22)] {
+        let value = Entry {
+            kind,
+            form,
+            length: 20,
+            ..BLANK
+        };
+        let mut out = [0xFF; 32];
+        let answer = nlroute_text(family, &value, &[0; 20], &mut out);
+        assert!(rt; holds_text(answer, &out, "(20 bytes, not decoded)"));
+    }
     // longer than what is written without an allocation
     let many = [0xAB; 300];
     let long = Entry {

@@ -2,9 +2,9 @@
 
 use crate::tests::{BLANK, holds_text};
 use crate::{
-    nlroute_code_text, nlroute_family_name, nlroute_family_of, nlroute_from_info_kind,
-    nlroute_from_port_kind, nlroute_kind_of, nlroute_kind_of_in, nlroute_number_of,
-    nlroute_read_row, nlroute_text,
+    nlroute_code_text, nlroute_family_name, nlroute_family_of, nlroute_flag_name,
+    nlroute_from_info_kind, nlroute_from_port_kind, nlroute_kind_name, nlroute_kind_of,
+    nlroute_kind_of_in, nlroute_number_name, nlroute_number_of, nlroute_read_row, nlroute_text,
 };
 use link_entries::{Entry, Row};
 
@@ -82,6 +82,47 @@ fn numbers_by_their_names(rt: HostRuntime) {
     let mut out = [0xFF; 16];
     let answer = nlroute_text(1, &Entry { number: 4, ..mode }, &[], &mut out);
     assert!(rt; holds_text(answer, &out, "802.3ad (4)"));
+}
+
+#[test]
+fn names_at_depths(rt: HostRuntime) {
+    // a flag of a tunnel in IFLA_BRIDGE_VLAN_TUNNEL_INFO, as an attribute, an element and at depths that there are not
+    for (depth, found) in [(0, -6), (1, 0), (2, -6), (255, -6)] {
+        let flags = Entry {
+            kind: 3,
+            inner: 3,
+            depth,
+            ..BLANK
+        };
+        let mut number = 9;
+        let answer = nlroute_number_of(0, &flags, b"PVID", &mut number);
+        assert!(rt; answer == found && number == if found == 0 { 2 } else { 9 });
+    }
+    // the numbers of IFLA_STATS64, and below a type without elements
+    for (family, kind, depth, name, found) in [
+        (11, 23, 0, b"rx_packets", 0),
+        (11, 23, 1, b"rx_packets", 0),
+        (11, 23, 2, b"rx_packets", -6),
+        (1, 1, 1, b"balance-rr", -6),
+    ] {
+        let value = Entry {
+            kind,
+            depth,
+            ..BLANK
+        };
+        assert!(rt; nlroute_number_of(family, &value, name, &mut 9) == found);
+    }
+    let deep = Entry {
+        kind: 1,
+        inner: 1,
+        depth: 2,
+        number: 4,
+        ..BLANK
+    };
+    let mut out = [0xFF; 16];
+    assert!(rt; nlroute_number_name(1, &deep, &mut out) == -6 && out[0] == 0);
+    assert!(rt; nlroute_flag_name(1, &deep, 0, &mut out) == -6);
+    assert!(rt; holds_text(nlroute_kind_name(1, &deep, &mut out), &out, "type 1"));
 }
 
 #[test]
