@@ -27,7 +27,7 @@ o() {
 
 # Tests the query of the page below the comment $1.
 query() {
-    grep -A 1 -xF "# $1" "$page" | sed -n 's/^jq /jq -L docs /p' >"$room/query"
+    grep -A 1 -xF "# $1" "$page" | sed -n 's/^jq \(-L [^ ]* \)\{0,1\}/jq -L docs /p' >"$room/query"
     sh "$room/query" <"$room/documents" >"$room/found" 2>&1 || true
     asked=$((asked + 1))
     finds "$1"

@@ -11,7 +11,6 @@ import re
 LISTS = [
     ("docs/ARCHITECTURE.md", r"crates\.txt", r"^(\w+)[^:\n#]*:", "crate"),
     ("CONTRIBUTING.md", r"\.ci/run", r"^ *part (?:(?:tools|extra)/)?([\w.]+)", "part of CI"),
-    ("docs/c.md", r"crates/nlroute_ffi/include/nlroute(_requests)?\.h", r"^(?:ptrdiff_t |bool |uint32_t |const char \*)(nlroute_\w+)\(", "function"),
     ("docs/rattle.md", r"crates/link_messages/src/(?!laws).*\.rt", r"^pub fn (\w+)", "function"),
     ("docs/programs.md", r"crates/show_lines/src/replies\.rt", r"^  (?:-\w, )?--(\w+)", "option of nlshow"),
     ("docs/nlshow.1", r"crates/show_lines/src/replies\.rt", r"^  (?:-\w, )?--(\w+)", "option of nlshow"),

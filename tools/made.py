@@ -181,23 +181,25 @@ def example(tree):
 # ---- docs/families.md
 
 FAMILIES = """\
-# Families
+# Attribute sets
 
-A *family* is an attribute set. What holds the list, and the kind of device, select it.
+A set, or *family*, is the attribute types of one kind of list. What holds the list, and the kind of device, select it.
 
-| Family | Attributes of | The list is | The kind is | In Rattle |
+| Set | Attributes of | The list is | The kind is | In Rattle |
 |---|---|---|---|---|
 """
 BELOW_FAMILIES = """
-`IFLA_INFO_KIND` has the kind, or for a port `IFLA_INFO_SLAVE_KIND`, that of its master. The list of `link` follows
-`struct ifinfomsg`, in a message or a peer, and that of `reply` is the attributes `NLMSGERR_ATTR_*`. `AF_INET`,
-`AF_INET6` and `AF_MCTP` are in `IFLA_AF_SPEC`; of an AF_INET6 message, `IFLA_PROTINFO` is a list of `inet6`.
-`proto_bridge` knows attribute type 45 only, as upstream does; for others, use `bridge_port`. `tools/made.py` writes
-this page.
+The kind is `IFLA_INFO_KIND` or, for a port, `IFLA_INFO_SLAVE_KIND`: that of its master. Without the latter, the kinds
+`bond_slave` and `bridge_slave` of `IFLA_INFO_KIND` tell it. The list of `link` follows `struct ifinfomsg`, and that of
+`reply` is the attributes `NLMSGERR_ATTR_*`. `AF_INET`, `AF_INET6` and `AF_MCTP` are in `IFLA_AF_SPEC`. In AF_INET6
+messages, `IFLA_PROTINFO` is a list of `inet6`. `proto_bridge` knows attribute type 45 only, as upstream does; for others,
+use `bridge_port`. `tools/made.py` writes this page.
 
 These kinds have no attributes of their own: `dummy`, `ifb`, `lowpan`, `netdevsim`, `nlmon`, `pfcp`, `team`, `vcan`,
 `virt_wifi`, `vsockmon` and `wireguard`. For most, Linux sends no `IFLA_INFO_DATA`.
 """
+# What holds a list that no attribute holds, by the name of its set.
+WHOLE_LISTS = {"link": "a message about a link", "reply": "a reply"}
 
 
 def one_of(names):
@@ -206,11 +208,13 @@ def one_of(names):
 
 def page_of_families(tree):
     """The page with a row for each attribute set."""
-    rows = [
-        f"| `{it['name']}` | {it['whose']} | {one_of(filter(None, it['holders']))} | {one_of(it['kinds'])} | `{it['attributes']}` |\n"
-        for it in families.families(tree.text_or_none)
-    ]
-    return FAMILIES + "".join(rows) + BELOW_FAMILIES
+    page = FAMILIES
+    for it in families.families(tree.text_or_none):
+        held = one_of(filter(None, it["holders"]))
+        if it["name"] in WHOLE_LISTS:
+            held = WHOLE_LISTS[it["name"]] + f" or {held}" * (held != "–")
+        page += f"| `{it['name']}` | {it['whose']} | {held} | {one_of(it['kinds'])} | `{it['attributes']}` |\n"
+    return page + BELOW_FAMILIES
 
 
 # ---- docs/captured.pcapng

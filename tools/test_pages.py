@@ -284,7 +284,7 @@ CASES = [
 KEPT = {
     "crates.txt": "# Crates.\nlink_pairs: bstr\nprogram:\n", "docs/ARCHITECTURE.md": "`link_pairs`, `program`, pairs/\n",
     ".ci/run": "before=1\npart rt ci\n    part tools/runs.py\n", "CONTRIBUTING.md": "`rt ci`, then `runs.py`. `a.py`, `b.sh`\n",
-    HEADER: "#define NLROUTE_VERSION 0x00010au\nbool nlroute_is_pair(void);\n", "docs/c.md": "`nlroute_is_pair(..)`\n",
+    HEADER: "#define NLROUTE_VERSION 0x00010au\n",
     "README.md": "Version: 0.1.10, unreleased.\n",
     "docs/proofs/ASSURANCE.md": "`bstr` (names)\n", "runs/pairs/one": "", "runs/README": "", "bench/README.md": "`run.py`, `out`\n",
     "tools/a.py": "", "extra/b.sh": "", "bench/run.py": "", "bench/out/one": "",
@@ -292,7 +292,6 @@ KEPT = {
 LACKING = [
     ("crates.txt", "program", "programs", "docs/ARCHITECTURE.md: it lacks the crate programs"),
     (".ci/run", "runs", "kinds", "CONTRIBUTING.md: it lacks the part of CI kinds.py"),
-    (HEADER, "is_pair", "pair", "docs/c.md: it lacks the function nlroute_pair"),
     ("crates.txt", "bstr", "bstr hex", "docs/proofs/ASSURANCE.md: it lacks the crate of the kit hex"),
     ("docs/ARCHITECTURE.md", "pairs/", "", "docs/ARCHITECTURE.md: it lacks the folder of runs pairs"),
     ("CONTRIBUTING.md", "a.py", "a.sh", "CONTRIBUTING.md: it lacks the file a.py"),

@@ -8,7 +8,7 @@ static ptrdiff_t make_bond(uint8_t *out, size_t room) {
     const struct nlroute_value bond[] = {
         nlroute_name("bond0"),
         NLROUTE_DATA("bond"),
-        nlroute_below(2, nlroute_number(NLROUTE_IFLA_BOND_MODE, 4)),     /* 802.3ad */
+        nlroute_below(2, nlroute_number(NLROUTE_IFLA_BOND_MODE, NLROUTE_BOND_MODE_8023AD)),
         nlroute_below(2, nlroute_number(NLROUTE_IFLA_BOND_MIIMON, 100)), /* ms */
     };
     struct nlroute_head head = nlroute_create();

@@ -8,8 +8,18 @@
  * input; the contracts are in crates/nlroute_ffi/src/lib.rt of the sources. Tested only are what is marked "not proved",
  * the inline functions, and that a function does not allocate.
  *
- * A list is canonical if all padding is present and zero, each nla_type is the one that is written, with its flags, and
- * each payload is the only encoding of its value.
+ * Words in names and comments:
+ * - family, or set: an attribute set, the attribute types of one kind of list. It is not an address family such as AF_BRIDGE.
+ * - kind: an attribute type, nla_type without flags; in nlroute_info_kind() and the like, the text of IFLA_INFO_KIND.
+ * - value: an attribute, decoded; or an element of a list in it, such as one of its addresses.
+ * - held: of a list, that an attribute of another set has it as its payload, as IFLA_INFO_DATA has that of a bond.
+ * - octets: bytes that values refer to by offset and length, such as the list that they were read from. nlroute_lent() and
+ *   nlroute_passed() make such a value.
+ * - room: the size of an output buffer, in bytes; places: that of an array of values.
+ * - depth: how many lists a value is in, below the attributes of a message; nlroute_below() adds to it.
+ * - lower: the link below a VLAN device and the like, IFLA_LINK.
+ * - canonical: of a list, that all padding is present and zero, each nla_type is the one that is written, with its flags, and
+ *   each payload is the only encoding of its value.
  *
  * Requirements on the caller:
  * - No pointer is NULL, even for a length of 0. Each is aligned for its type and points to at least as many elements as
@@ -217,7 +227,7 @@ enum nlroute_form {
     NLROUTE_FORM_BOOL = 2,             /* number: 0 or 1; of a flag that may have no payload, length: 0 or 1 */
     NLROUTE_FORM_UNSIGNED = 3,         /* number */
     NLROUTE_FORM_SIGNED = 4,           /* number, as (int64_t)number */
-    NLROUTE_FORM_NAMED = 5,            /* number: of an enum */
+    NLROUTE_FORM_NAMED = 5,            /* number: of an enum (nlroute_numbers.h) */
     NLROUTE_FORM_FLAGS = 6,            /* number: a set of flags */
     NLROUTE_FORM_MASKED = 7,           /* number: a set of flags; mask: its mask */
     NLROUTE_FORM_MAC = 8,              /* octets: 6 */
@@ -536,7 +546,7 @@ ptrdiff_t nlroute_text(uint32_t family, const struct nlroute_value *value, const
 
 /*
  * Stores the name of the number of a value, such as "802.3ad". The fields kind, inner and depth select the attribute
- * type. Enums, VLAN protocols and the states of CAN controllers have names.
+ * type. Numbers of NLROUTE_FORM_NAMED have names.
  *
  * Returns NLROUTE_ABSENT if and only if the number has no name: also if depth is greater than 1, or if it is 1 and the
  * values of type kind have no elements.
@@ -753,9 +763,8 @@ struct nlroute_range {
 }; /* 16 bytes, without padding */
 
 /*
- * Finds a list in the attributes of a message: the last that nlroute_family `family` reads, of the lists that these
- * attributes hold, and those in these lists. For NLROUTE_BOND, that is IFLA_INFO_DATA in an IFLA_LINKINFO with the
- * IFLA_INFO_KIND "bond". The input is message->length bytes from message->list on, and address_family that of the message.
+ * Finds the last list of the set `family` in a message, at any depth. For NLROUTE_BOND, that is IFLA_INFO_DATA in an
+ * IFLA_LINKINFO with the IFLA_INFO_KIND "bond". The input is message->length bytes from message->list on, and address_family that of the message.
  * Stores where the list is in the input in *held, and returns 0.
  *
  * Linux takes the last attribute of a type, and so does this call, except that an attribute that does not decode, or whose

@@ -2,9 +2,20 @@
  * Writes requests about links, such as the one that makes a bond: whole rtnetlink messages, from a head and an array of
  * values. The function opens no socket; send() takes what it writes.
  *
- * What nlroute.h requires of callers holds here too. In builds that say `proved`, what nlroute_request() returns and stores
- * is proved to be as described below. The inline functions, and what Linux does, are only tested. The header needs no header
- * of the kernel.
+ * What nlroute.h requires of callers holds here too, and its words are those of this header. In builds that say `proved`, what
+ * nlroute_request() returns and stores is proved to be as described below. The inline functions, and what Linux does, are only
+ * tested. The header needs no header of the kernel.
+ *
+ * Linux surprises in nine ways; of the first, nlroute_request() returns an error:
+ * - index 0 with an IFLA_GROUP changes or deletes every link of the group;
+ * - RTM_DELLINK deletes the link, except in AF_BRIDGE: take VLANs away with nlroute_bridge_delete();
+ * - NLM_F_CREATE without NLM_F_EXCL changes a link that has the name;
+ * - there is no NLM_F_REPLACE: use nlroute_change();
+ * - a refused request is not undone: read the link again;
+ * - a bond takes no port that is up;
+ * - only sockets with NETLINK_EXT_ACK get the reason of an error, and the attribute's offset;
+ * - datagrams of a dump have up to 32 KiB, and recv() cuts them silently;
+ * - NLM_F_DUMP_INTR marks a dump during which links changed: ask again.
  */
 #ifndef NLROUTE_REQUESTS_H
 #define NLROUTE_REQUESTS_H
@@ -209,7 +220,7 @@ static inline struct nlroute_value nlroute_mtu(uint32_t mtu)
     return nlroute_of_message(nlroute_number(NLROUTE_IFLA_MTU, mtu));
 }
 
-/* IFLA_MASTER: the index of the bond or bridge that the link becomes a port of, or 0. */
+/* IFLA_MASTER: the index of the bond, bridge or VRF device that the link becomes a port of, or 0. */
 static inline struct nlroute_value nlroute_master(uint32_t index)
 {
     return nlroute_of_message(nlroute_number(NLROUTE_IFLA_MASTER, index));
@@ -267,7 +278,7 @@ static inline struct nlroute_value nlroute_port_data(void)
 /* Three values: an IFLA_LINKINFO with a kind, such as "bond", and its data. At least one value of it follows, two deeper. */
 #define NLROUTE_DATA(kind) NLROUTE_KIND(kind), nlroute_info_data()
 
-/* Likewise for a port of a bond or bridge. */
+/* Likewise for a port, with the kind of its master. */
 #define NLROUTE_PORT_DATA(kind) nlroute_linkinfo(), NLROUTE_AND_PORT_DATA(kind)
 
 /*
