@@ -12,7 +12,7 @@ from nlroute import _kinds, _tables
 TOP = os.path.dirname(os.path.dirname(os.path.dirname(os.path.dirname(os.path.realpath(__file__)))))
 GROUP = re.compile(r"/\* (?:Attributes of NLROUTE_|Elements of )([^*]*)\. \*/\nenum \{\n([^}]*)\n\};")
 PLACES = re.compile(r"/\* Places of the array (\w+)\. \*/\nenum \{\n([^}]*)\n\};")
-PLACE = re.compile(r"NLROUTE_(?:IPV[46]_CONF_)?(\w+) = (\d+)")
+PLACE = re.compile(r"NLROUTE_(?:(?:IPV4_CONF|IPV6_CONF|IPV6_STATS|ICMP6_STATS)_)?(\w+) = (\d+)")
 TYPE = re.compile(r"NLROUTE_(\w+) = (\d+),? /\* (.*?)((?:, .*)?) \*/")
 UNITS = {
     "1/100 s": Unit.CLOCK_TICKS, "ms": Unit.MILLISECONDS, "s": Unit.SECONDS, "ns": Unit.NANOSECONDS, "bit/s": Unit.BITS_PER_SECOND,
