@@ -193,7 +193,8 @@ The kind is `IFLA_INFO_KIND` or, for a port, `IFLA_INFO_SLAVE_KIND`: that of its
 `bond_slave` and `bridge_slave` of `IFLA_INFO_KIND` tell it. The list of `link` follows `struct ifinfomsg`, and that of
 `reply` is the attributes `NLMSGERR_ATTR_*`. `AF_INET`, `AF_INET6` and `AF_MCTP` are in `IFLA_AF_SPEC`. In AF_INET6
 messages, `IFLA_PROTINFO` is a list of `inet6`. `proto_bridge` knows attribute type 45 only, as upstream does; for others,
-use `bridge_port`. `tools/made.py` writes this page.
+use `bridge_port`. No set reads the lists of virtual functions (`IFLA_VFINFO_LIST`, `IFLA_VF_PORTS`, `IFLA_PORT_SELF`) and
+the data of other devices. `tools/made.py` writes this page.
 
 These kinds have no attributes of their own: `dummy`, `ifb`, `lowpan`, `netdevsim`, `nlmon`, `pfcp`, `team`, `vcan`,
 `virt_wifi`, `vsockmon` and `wireguard`. For most, Linux sends no `IFLA_INFO_DATA`.

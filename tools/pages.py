@@ -60,7 +60,7 @@ PAGES = re.compile(
     r"(README|CONTRIBUTING|CHANGELOG)\.md|docs/((proofs/)?[^/]+\.md|nl(show|route)\.1)|(bench|tools|extra|(bindings|crates)/[^/]+)/README\.md"
 )
 # The most words that all pages may have, but for the history, and the most for that.
-TOTAL, HISTORY_WORDS = 27_000, 5_100
+TOTAL, HISTORY_WORDS = 27_000, 500
 HISTORY, COMPARISON = "CHANGELOG.md", "docs/DIFFERENCES.md"
 # A page that tools/made.py writes.
 MADE = "docs/families.md"

@@ -4,7 +4,7 @@
  *
  * Compile it as nlroute.h says: cc links.c $(pkg-config --cflags --libs nlroute)
  */
-#include "nlroute.h"
+#include "nlroute_requests.h"
 
 #include <linux/if_link.h>
 #include <linux/rtnetlink.h>
@@ -71,13 +71,11 @@ static bool print_links(const uint8_t *buffer, size_t len) {
 
 int main(void) {
     static uint8_t buffer[ROOM];
-    struct {
-        struct nlmsghdr header;
-        struct ifinfomsg link;
-    } request = {{sizeof request, RTM_GETLINK, NLM_F_REQUEST | NLM_F_DUMP, 1, 0}, {0}};
+    const struct nlroute_head dump = nlroute_dump();
+    size_t at;
+    ssize_t len = nlroute_request(&dump, NLROUTE_NO_VALUES, NLROUTE_NO_OCTETS, buffer, sizeof buffer, &at);
     int netlink = socket(AF_NETLINK, SOCK_RAW | SOCK_CLOEXEC, NETLINK_ROUTE);
-    if (netlink < 0 || send(netlink, &request, sizeof request, 0) < 0) return perror("netlink"), 1;
-    ssize_t len;
+    if (len < 0 || netlink < 0 || send(netlink, buffer, (size_t)len, 0) < 0) return perror("netlink"), 1;
     do {
         len = recv(netlink, buffer, sizeof buffer, 0);
         if (len < 0) return perror("netlink"), 1;
