@@ -126,7 +126,8 @@ def of_line(number, line):
         return [(place, "error", (None, "no such family"))]
     digits = b"".join(words)
     if not re.fullmatch(rb"([0-9a-fA-F]{2})*", digits):
-        return [(place, "error", (None, "bad hex"))]
+        # (the column is not worked out; random lines have no `:` and no `0x`)
+        return [(place, "error", (None, None))]
     data = bytes.fromhex(digits.decode())
     if what == "message":
         return of_messages(place, data)
@@ -418,10 +419,11 @@ def check(binary, given):
             need(isinstance(document, dict), "it is no object")
             check_document(document, *it)
         fails = [it for _, what, it in wanted if what == "error" and it[1] in ("cannot open", "read fault")]
-        is_other = any(it[1] in reader.OTHERS.values() for _, what, it in wanted if what == "error")
+        is_other = any(it[1] in (*reader.OTHERS.values(), reader.MESSAGES) for _, what, it in wanted if what == "error")
         status = 5 if fails else 2 if is_other else 0 if all(it["ok"] for it in documents) else 1
         need(ran.returncode == plain.returncode == status, "status", ran.returncode, plain.returncode, status)
-        need(not ran.stderr, "standard error:", ran.stderr)
+        reasons = [it for it in ran.stderr.split(b"\n")[:-1] if it.startswith(b"nlshow: ")]
+        need(len(reasons) == len(fails) == ran.stderr.count(b"\n"), "standard error:", ran.stderr)
     except (Wrong, ValueError, KeyError, TypeError) as error:
         return f"{type(error).__name__}: {error}", ran.stdout
     return None, ran.stdout

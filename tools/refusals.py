@@ -167,13 +167,14 @@ def runs_of_json():
 
 
 def runs_of_files():
-    """`nlshow` as JSON for a file that is not there, and for a folder, which cannot be read. It prints nothing if an allocation
-    fails after its arguments are read."""
-    for name, text in (("none", "cannot open"), (".", "read fault")):
+    """`nlshow` as JSON for a file that is not there, and for a folder, which cannot be read. It prints no document if an
+    allocation fails after its arguments are read, and may say on standard error why a file cannot be opened."""
+    for name, text, reason in (("none", "cannot open", "No such file or directory"), (".", "read fault", "Is a directory")):
         words = ["nlshow", "--format", "json", name]
         document = f'{{"file":"{name}","error":{{"at":null,"text":"{text}"}},"ok":false}}\n'
-        wanting = [NO_MEMORY, printed("", 4)]
-        yield words, b"", printed(document, 5), wanting, for_arguments(words) + 43
+        line = f"nlshow: {name}: {reason}\n"
+        wanting = [NO_MEMORY, printed("", 4), *([printed(line, 4)] * (name == "none"))]
+        yield words, b"", printed(document + line, 5), wanting, for_arguments(words) + 43
 
 
 def main():

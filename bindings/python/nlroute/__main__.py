@@ -25,7 +25,7 @@ from io import BufferedReader
 from typing import cast
 
 from . import __version__
-from ._capture import OTHER_FORMATS, Source, show_capture, show_stream_of_messages
+from ._capture import OTHER_FORMATS, RAW_MESSAGES, Source, show_capture, show_stream_of_messages
 from ._kinds import Family
 from ._show import check, quoted, show
 from ._show_message import show_messages
@@ -33,6 +33,8 @@ from ._show_message import show_messages
 USAGE = "usage: python -m nlroute [--raw] [FILE].. | --help | --version"
 MOST_TEXT = 262_144  # bytes of a line
 SPACE = b" \t\r\n"
+DIGITS = b"0123456789ABCDEFabcdef"
+MARK, PREFIX = re.compile(rb"[xX:]"), re.compile(rb"0[xX](?=[0-9A-Fa-f])")
 REPEATED = re.compile(rb"[ -~\t]*")
 CHUNK = 65_536  # bytes of one read, at most
 WRONG, MISUSED, NO_MEMORY, FAILED = 1, 2, 4, 5
@@ -74,22 +76,45 @@ def answer(text: bytes) -> list[str]:
     """Returns the lines for a request. Those of errors are as in `is_wrong`."""
     word, rest = cut(text)
     if word == b"message":
-        return lines_of(rest, show_messages)
+        return lines_of(text, rest, show_messages)
     printed = show
     if word == b"check":
         word, rest = cut(rest.lstrip(SPACE))
         printed = check
     family = family_of(word)
-    return ["no such family"] if family is None else lines_of(rest, partial(printed, family))
+    return ["no such family"] if family is None else lines_of(text, rest, partial(printed, family))
 
 
-def lines_of(digits: bytes, printed: Callable[[bytes], Iterable[str]]) -> list[str]:
-    """Returns the lines that are printed of the bytes in hex."""
+def lines_of(text: bytes, rest: bytes, printed: Callable[[bytes], Iterable[str]]) -> list[str]:
+    """Returns the lines that are printed of the bytes in hex at the end of a line."""
+    plain = without_marks(rest)
     try:
-        data = unhexlify(digits.translate(None, SPACE))
+        data = unhexlify(plain.translate(None, SPACE))
     except ValueError:
-        return ["bad hex"]
+        return [f"bad hex at column {len(text) - len(rest) + bad_at(plain) + 1}"]
     return list(printed(data))
+
+
+def without_marks(text: bytes) -> bytes:
+    """Returns the text with spaces in the place of `0x` in front of a byte, and of `:` behind one."""
+    if not MARK.search(text):
+        return text
+    plain, is_half, is_behind = bytearray(text), False, False
+    for at in range(len(plain)):
+        if not is_half and PREFIX.match(plain, at):
+            plain[at : at + 2] = b"  "
+        elif is_behind and plain[at] == ord(":"):
+            plain[at] = ord(" ")
+        is_digit = plain[at] in DIGITS
+        is_half ^= is_digit
+        is_behind = is_digit and not is_half
+    return bytes(plain)
+
+
+def bad_at(plain: bytes) -> int:
+    """Returns the index of the first byte that is neither a digit nor white space, or else of the last digit."""
+    bad = (at for at, byte in enumerate(plain) if byte not in DIGITS + SPACE)
+    return next(bad, len(plain.rstrip(SPACE)) - 1)
 
 
 def is_wrong(line: str) -> bool:
@@ -147,6 +172,9 @@ def show_source(raw: bool, source: Source) -> int:
     if raw:
         return put_all(show_stream_of_messages(source))
     magic = source.magic()
+    if magic is None and source.is_messages():
+        put(RAW_MESSAGES.encode())
+        return MISUSED
     if magic is None:
         status = 0
         while (line := read_line(source)) is not None:

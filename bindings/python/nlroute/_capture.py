@@ -56,6 +56,10 @@ OTHER_FORMATS = {
     b"snoop\0\0\0": other("snoop"),
 }
 MAGICS = (*PCAP, SECTION, *OTHER_FORMATS)
+# The line that says that an input is messages, one after another
+RAW_MESSAGES = "raw netlink messages: read them with --raw, as in nlshow --raw FILE"
+MESSAGE_LENGTHS = range(16, 65_537)  # of the first one
+MESSAGE_TYPES = (*range(1, 5), *range(TIMESTAMP, 124))  # NLMSG_NOOP to NLMSG_OVERRUN, TIMESTAMP, RTM_BASE to RTM_MAX
 
 
 class InputFault(Exception):
@@ -119,6 +123,16 @@ class Source:
             self.fill(len(self.held) + 1)
         return next((it for it in MAGICS if self.held.startswith(it)), None)
 
+    def is_messages(self) -> bool:
+        """Returns whether the first bytes are those of messages, one after another. Takes nothing."""
+        while not self.has_ended and may_begin_messages(self.held):
+            self.fill(len(self.held) + 1)
+        front = bytes(self.held[:6])
+        if len(front) < 6:
+            return False
+        length, kind = struct.unpack("<IH", front)
+        return length in MESSAGE_LENGTHS and kind in MESSAGE_TYPES
+
     def begins(self, least: int, few: str) -> bool:
         """Returns whether a unit follows: false at the end. Each has at least so many bytes."""
         left = self.fill(least)
@@ -134,6 +148,13 @@ class Source:
         if left < length:
             raise InputFault(f"{name} {length} exceeds the {bytes_text(left)} left")
         return bytes(self.held[:length])
+
+
+def may_begin_messages(front: bytes | bytearray) -> bool:
+    """Returns whether bytes are too few for the length and the type of a message, and may begin them."""
+    low = int.from_bytes(front[:4], "little")
+    may_be_length = low in MESSAGE_LENGTHS or low + 256 ** len(front) < MESSAGE_LENGTHS.stop
+    return len(front) < 6 and may_be_length and (len(front) < 5 or front[4] in MESSAGE_TYPES)
 
 
 def bytes_text(count: int) -> str:

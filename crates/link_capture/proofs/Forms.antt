@@ -1,118 +1,65 @@
 -- The first bytes of a file tell its form.
-use Rattle.std.proofs.Common.{◌≡◌, ◌≢◌, ◌<◌, ◌&&◌, ◌||◌, ℕ, zero, suc, Bool, true, false, true≢false, cond, List, [], ◌∷◌, ◌++◌, length, take, drop, Option, Some, None, Result, Ok, nat_eq, nat_lt, refl, sym, ap, ap₂, subst, ◌∙◌, inl, inr, arith}
-use Rattle.std.specs.Option.{option_map, option_transpose, is_none}
-use Rattle.std.specs.List.{find, list_all, list_any, starts_with}
-use Rattle.std.proofs.Math.Seq.{take-append_seam}
-use Rattle.std.proofs.lemmas.Bool.{eqb-true, eq-eqb, lt-ltb, ltb-true, and_parts, cases_lt}
-use Rattle.std.proofs.lemmas.Bool.Decides.{Decides-eqb}
-use Rattle.std.proofs.lemmas.Slice.Eq.{starts_is}
+use Rattle.std.proofs.Common.{◌≡◌, ◌≢◌, Bool, true, false, true≢false, ◌&&◌, ◌||◌, ℕ, List, ◌++◌, Option, Some, None, Result, Ok, Err, refl, sym, ap, ap₂, subst, ◌∙◌, ⊎_elim, if◌then◌else◌}
+use Rattle.std.proofs.lemmas.Bool.{and_parts, cases_Bool, or_cases, or_parts}
 use Rattle.link_capture.specs.declared.form.Form.{Form}
 use Rattle.link_capture.specs.declared.other_format.OtherFormat.{OtherFormat}
-use Rattle.link_capture.specs.Form.{magics, form_of, begins_magic}
+use Rattle.link_capture.specs.declared.other_format.OtherFormat.TheVariants.{Messages}
+use Rattle.link_capture.specs.Form.{magics, form_by, form_by, form_of, form_of_others, begins_magic, is_open, needs_more}
+use Rattle.link_capture.specs.Messages.{is_stream, begins_stream}
+use Rattle.link_capture.proofs.Magics.{same_known}
+use Rattle.link_capture.proofs.Magics as magic
+use Rattle.link_capture.proofs.Streams.{same_stream, begun_stream}
 
--- two tests whose first part is the same, and whose others are, if it holds
-same_and : (a p q : Bool) → (a ≡ true → p ≡ q) → (a && p) ≡ (a && q)
-same_and true p q h = h refl
-same_and false p q h = refl
+-- what bytes are that start with no magic number
+abbrev lines_unless : Bool → Result (Option Form) OtherFormat
+lines_unless stream = if stream then Err Messages else Ok None
 
--- if s is no proper prefix of m, what follows s does not say whether it starts with m
-same_start : (m s more : List ℕ) → (length s < length m → starts_with nat_eq m s ≡ false) → starts_with nat_eq (s ++ more) m ≡ starts_with nat_eq s m
-same_start [] s more h = refl
-same_start (b ∷ m) [] more h = absurd (true≢false (h (omega arith)))
-same_start (b ∷ m) (c ∷ s) more h =
-    same_and (nat_eq b c) (starts_with nat_eq (s ++ more) m) (starts_with nat_eq s m)
-    (λ e. same_start m s more (λ lt. subst (λ x. (x && starts_with nat_eq m s) ≡ false) (eq-eqb c b (sym (eqb-true b c e))) (h (omega (arith, lt)))))
+-- what a magic number tells stays, and bytes without one stay what they are
+same_form : (file : Result (Option Form) OtherFormat) (s more : List ℕ) → (is_open file && begins_stream s) ≡ false → form_by file (s ++ more) ≡ form_by file s
+same_form (Ok None) s more h = ap lines_unless (same_stream s more h)
+same_form (Ok (Some form)) s more h = refl
+same_form (Err format) s more h = refl
 
-or_parts : (a b : Bool) → (a || b) ≡ false → (a ≡ false) × (b ≡ false)
-or_parts true b h = absurd (true≢false h)
-or_parts false b h = (refl, h)
+-- what follows does not change the form that is known
+pub known : (s more : List ℕ) → needs_more s ≡ false → form_of (s ++ more) ≡ form_of s
+known s more h =
+    let parts = or_parts (begins_magic s) (is_open (form_by magics s) && begins_stream s) h in
+    ap (λ file. form_by file (s ++ more)) (same_known s more parts.0) ∙ same_form (form_by magics s) s more parts.1
 
--- a magic number and what it tells
-abbrev Magic : Type 0
-Magic = List ℕ × Result Form OtherFormat
+-- they tell nothing, and with what follows they may
+abbrev IsBegun : List ℕ → Type 0
+IsBegun s = (form_of s ≡ Ok None) × ((more : List ℕ) × (form_of (s ++ more) ≢ Ok None))
 
--- the magic number with which s starts
-abbrev found : List ℕ → List Magic → Option Magic
-found s ms = find (λ m. starts_with nat_eq s m.0) ms
+opened : (file : Result (Option Form) OtherFormat) → is_open file ≡ true → file ≡ Ok None
+opened (Ok None) h = refl
+opened (Ok (Some form)) h = absurd (true≢false (sym h))
+opened (Err format) h = absurd (true≢false (sym h))
 
--- ---- tests of the magic numbers
+known_form : (file : Result (Option Form) OtherFormat) (s : List ℕ) → file ≢ Ok None → form_by file s ≢ Ok None
+known_form (Ok None) s h e = h refl
+known_form (Ok (Some form)) s h e = h e
+known_form (Err format) s h e = h e
 
--- a file is known
-abbrev tells_form : Result (Option Form) OtherFormat → Bool
-tells_form (Ok None) = false
-tells_form known = true
+is_lines : (stream : Bool) → stream ≡ false → lines_unless stream ≡ Ok None
+is_lines stream e = ap lines_unless e
 
--- none of the first parts of m, each with fewer than n bytes, starts with a magic number
-abbrev are_open : ℕ → List ℕ → Bool
-are_open zero m = true
-are_open (suc n) m = is_none (found (take n m) magics) && are_open n m
+is_known : (file : Result (Option Form) OtherFormat) → file ≡ Err Messages → file ≢ Ok None
+is_known file is e = true≢false (ap is_open (sym e ∙ is))
 
--- a magic number tells what a file is, and no proper prefix of it does
-abbrev is_closed : Magic → Bool
-is_closed m = tells_form (form_of m.0) && are_open (length m.0) m.0
+-- bytes that begin a magic number, or a stream, tell nothing yet
+pub begun : (s : List ℕ) → needs_more s ≡ true → IsBegun s
+begun s h = ⊎_elim by_magic by_stream (or_cases (begins_magic s) (is_open (form_by magics s) && begins_stream s) h)
+  where
+    by_magic : begins_magic s ≡ true → IsBegun s
+    by_magic h =
+        let (none, lines, (more, known)) = magic.begun s h in (ap (λ file. form_by file s) none ∙ is_lines (is_stream s) lines, (more, known_form (form_by magics (s ++ more)) (s ++ more) known))
 
-all_closed : list_all is_closed magics ≡ true
-all_closed = refl
-
-is_known : (known : Result (Option Form) OtherFormat) → tells_form known ≡ true → known ≢ Ok None
-is_known known h e = true≢false (sym h ∙ ap tells_form e)
-
-no_option : (o : Option Magic) → is_none o ≡ true → o ≡ None
-no_option None h = refl
-no_option (Some m) h = absurd (true≢false (sym h))
-
-open_at : (n k : ℕ) (m : List ℕ) → are_open n m ≡ true → k < n → found (take k m) magics ≡ None
-open_at zero k m h lt = absurd (omega (arith, lt))
-open_at (suc n) k m h lt =
-    let parts = and_parts (is_none (found (take n m) magics)) (are_open n m) h in
-    elim (cases_lt k n) [
-      | inl less ↦ open_at n k m parts.1 less
-      | inr most ↦ let e : n ≡ k = omega (arith, lt, most) in subst (λ i. found (take i m) magics ≡ None) e (no_option (found (take n m) magics) parts.0)
-    ]
-
--- ---- some bytes, and what may follow them
-
-module _ (s : List ℕ) where
-  -- s is a proper prefix of the magic number m, or of one of some
-  abbrev begins : Magic → Bool
-  begins m = nat_lt (length s) (length m.0) && starts_with nat_eq m.0 s
-
-  abbrev begins_one : List Magic → Bool
-  begins_one ms = list_any begins ms
-
-  same_found : (more : List ℕ) (ms : List Magic) → begins_one ms ≡ false → found (s ++ more) ms ≡ found s ms
-  same_found more [] h = refl
-  same_found more (m ∷ ms) h =
-      let parts = or_parts (begins m) (begins_one ms) h in
-      ap₂ (λ b o. cond b (Some m) o) (same_start m.0 s more (λ lt. subst (λ b. (b && starts_with nat_eq m.0 s) ≡ false) (lt-ltb (length s) (length m.0) lt) parts.0)) (same_found more ms parts.1)
-
-  -- what follows does not change the form that is known
-  pub form_kept : (more : List ℕ) → begins_magic s ≡ false → form_of (s ++ more) ≡ form_of s
-  form_kept more h = ap (λ o. option_transpose (option_map (λ m. m.1) o)) (same_found more magics h)
-
-  -- they tell nothing, and with what follows they may
-  abbrev IsOpen : Type 0
-  IsOpen = (form_of s ≡ Ok None) × ((more : List ℕ) × (form_of (s ++ more) ≢ Ok None))
-
-  opened : (m : Magic) → is_closed m ≡ true → begins m ≡ true → IsOpen
-  opened m closed h =
-      let tests = and_parts (tells_form (form_of m.0)) (are_open (length m.0) m.0) closed in
-      let parts = and_parts (nat_lt (length s) (length m.0)) (starts_with nat_eq m.0 s) h in
-      let whole : m.0 ≡ s ++ drop (length s) m.0 = (starts_is Decides-eqb m.0 s true (sym parts.1)).0 refl in
-      let front : take (length s) m.0 ≡ s = ap (take (length s)) whole ∙ take-append_seam s (drop (length s) m.0) in (
-        ap (λ o. option_transpose (option_map (λ m. m.1) o)) (subst (λ l. found l magics ≡ None) front (open_at (length m.0) (length s) m.0 tests.1 (ltb-true (length s) (length m.0) parts.0))),
-        (drop (length s) m.0, is_known (form_of (s ++ drop (length s) m.0)) (subst (λ l. tells_form (form_of l) ≡ true) whole tests.0)),
-      )
-
-  either_opened : (m : Magic) (b rest : Bool) → begins m ≡ b → is_closed m ≡ true → (b || rest) ≡ true → (rest ≡ true → IsOpen) → IsOpen
-  either_opened m true rest e closed h others = opened m closed e
-  either_opened m false rest e closed h others = others h
-
-  some_opened : (ms : List Magic) → list_all is_closed ms ≡ true → begins_one ms ≡ true → IsOpen
-  some_opened [] closed h = absurd (true≢false (sym h))
-  some_opened (m ∷ ms) closed h =
-      let parts = and_parts (is_closed m) (list_all is_closed ms) closed in either_opened m (begins m) (begins_one ms) refl parts.0 h (some_opened ms parts.1)
-
-  -- a proper prefix of a magic number tells nothing, and may begin a file that is known
-  pub begun : begins_magic s ≡ true → IsOpen
-  begun h = some_opened magics all_closed h
+    by_stream : (is_open (form_by magics s) && begins_stream s) ≡ true → IsBegun s
+    by_stream h =
+        let parts = and_parts (is_open (form_by magics s)) (begins_stream s) h in
+        let none = opened (form_by magics s) parts.0 in
+        let (lines, (more, stream)) = begun_stream s parts.1 in
+        ⊎_elim
+        (λ begins. by_magic begins)
+        (λ last. (ap (λ file. form_by file s) none ∙ is_lines (is_stream s) lines, (more, is_known (form_of (s ++ more)) (ap (λ file. form_by file (s ++ more)) (same_known s more last ∙ none) ∙ ap lines_unless stream))))
+        (cases_Bool (begins_magic s))

@@ -3,10 +3,12 @@ pub mod Forms
 pub mod Fronts
 pub mod Kept
 pub mod Longer
+pub mod Magics
 pub mod Nexts
 pub mod Once
 pub mod OptionsOnce
 pub mod Passed
 pub mod ReadingOnce
+pub mod Streams
 pub mod Units
 pub mod UnitsOnce

@@ -1,12 +1,13 @@
 -- The forms of inputs.
-use Rattle.std.specs.Prelude.{ℕ, Bool, ◌&&◌, List, [], ◌∷◌, ◌++◌, length, Option, option_map, Result, Ok, Err, nat_lt, nat_eq, codes}
+use Rattle.std.specs.Prelude.{ℕ, Bool, true, false, ◌&&◌, ◌||◌, List, [], ◌∷◌, ◌++◌, length, Option, Some, None, option_map, Result, Ok, Err, nat_lt, nat_eq, codes, if◌then◌else◌}
 use Rattle.std.specs.List.{find, list_any, starts_with}
 use Rattle.std.specs.Option.{option_transpose}
 use Rattle.link_capture.specs.declared.form.Form.{Form}
 use Rattle.link_capture.specs.declared.form.Form.TheVariants.{Pcap, Blocks}
 use Rattle.link_capture.specs.declared.order.Order.TheVariants.{Little, Big}
 use Rattle.link_capture.specs.declared.other_format.OtherFormat.{OtherFormat}
-use Rattle.link_capture.specs.declared.other_format.OtherFormat.TheVariants.{Gzip, Xz, Zstd, Bzip2, Lz4, ModifiedPcap, Snoop}
+use Rattle.link_capture.specs.declared.other_format.OtherFormat.TheVariants.{Gzip, Xz, Zstd, Bzip2, Lz4, ModifiedPcap, Snoop, Messages}
+use Rattle.link_capture.specs.Messages.{is_stream, begins_stream}
 
 -- the type of a section header, with which a pcapng file begins. It reads the same in either order
 abbrev pub section : ℕ
@@ -41,10 +42,28 @@ magics =
 abbrev pub form_by : List (List ℕ × Result Form OtherFormat) → List ℕ → Result (Option Form) OtherFormat
 form_by magics s = option_transpose (option_map (λ m. m.1) (find (λ m. starts_with nat_eq s m.0) magics))
 
--- what a file is: a capture in this form, or in another format; no form, if it starts with no magic number
+-- what a file is that starts with no magic number: a stream of messages, or lines, which have no form
+abbrev pub form_of_others : List ℕ → Result (Option Form) OtherFormat
+form_of_others s = if is_stream s then Err Messages else Ok None
+
+-- what a file is, by what a magic number tells
+abbrev pub form_by : Result (Option Form) OtherFormat → List ℕ → Result (Option Form) OtherFormat
+form_by (Ok None) s = form_of_others s
+form_by meaning s = meaning
+
+-- what a file is: a capture in this form, or in another format; no form, if it is lines
 abbrev pub form_of : List ℕ → Result (Option Form) OtherFormat
-form_of s = form_by magics s
+form_of s = form_by (form_by magics s) s
 
 -- s is a proper prefix of a magic number
 abbrev pub begins_magic : List ℕ → Bool
 begins_magic s = list_any (λ m. nat_lt (length s) (length m.0) && starts_with nat_eq m.0 s) magics
+
+-- nothing is told
+abbrev pub is_open : Result (Option Form) OtherFormat → Bool
+is_open (Ok None) = true
+is_open meaning = false
+
+-- s is too short to tell what a file is
+abbrev pub needs_more : List ℕ → Bool
+needs_more s = begins_magic s || (is_open (form_by magics s) && begins_stream s)

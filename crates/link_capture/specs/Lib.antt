@@ -3,6 +3,7 @@ pub mod ErrorText
 pub mod Form
 pub mod Front
 pub mod Meaning
+pub mod Messages
 pub mod Options
 pub mod Order
 pub mod OtherFormat

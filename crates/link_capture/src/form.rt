@@ -2,8 +2,9 @@
 
 ghost use Rattle.std.specs.Prelude.{◌≡◌, ◌&&◌, length, map, nat_eq, nat_lt, option_map};
 ghost use Rattle.std.specs.List.{find, list_any, starts_with};
-ghost use Rattle.link_capture.specs.Form.{form_by, form_of, begins_magic};
+ghost use Rattle.link_capture.specs.Form.{form_by, form_of, form_of_others, is_open, needs_more};
 
+use crate::messages::{begins_stream, is_stream};
 use crate::order::Order;
 use crate::other_format::OtherFormat;
 
@@ -81,8 +82,8 @@ const MAGICS: [Magic; 21] = [
 ];
 
 impl Form {
-    /// Returns the form of a pcap or pcapng file by its first bytes, or `None` if `bytes` does not begin with a known magic
-    /// number.
+    /// Returns the form of a pcap or pcapng file by its first bytes, or `None` for lines: if `bytes` begins with no known magic
+    /// number, and no message.
     ///
     /// # Errors
     ///
@@ -90,16 +91,36 @@ impl Form {
     pub fn of_file(bytes: &[u8]) -> Result<Option<Form>, OtherFormat>
         ensures { result ≡ form_of bytes.now }
     {
-        form_by(&MAGICS, bytes)
+        match form_by(&MAGICS, bytes) {
+            Ok(None) => of_others(bytes),
+            meaning => meaning,
+        }
     }
 
-    /// Returns whether `bytes` are too few to tell the form of a file: fewer than those of a magic number that begins with
-    /// them.
+    /// Returns whether `bytes` are too few to tell the form of a file: fewer than those of a magic number, or of the length
+    /// and the type of a message, that begins with them.
     pub fn needs_more(bytes: &[u8]) -> bool
-        ensures { result ≡ begins_magic bytes.now }
+        ensures { result ≡ needs_more bytes.now }
     {
-        begin_one(&MAGICS, bytes)
+        begin_one(&MAGICS, bytes) || is_open(form_by(&MAGICS, bytes)) && begins_stream(bytes)
     }
+}
+
+/// Returns what a file is that begins with no magic number.
+fn of_others(bytes: &[u8]) -> Result<Option<Form>, OtherFormat>
+    ensures { result ≡ form_of_others bytes.now }
+{
+    if is_stream(bytes) {
+        return Err(OtherFormat::Messages);
+    }
+    Ok(None)
+}
+
+/// Returns whether no magic number tells what a file is.
+fn is_open(meaning: Result<Option<Form>, OtherFormat>) -> bool
+    ensures { result ≡ is_open meaning }
+{
+    matches!(meaning, Ok(None))
 }
 
 /// Returns what `bytes` tell by these magic numbers, as `Form::of_file` does.

@@ -13,7 +13,7 @@ ghost use Rattle.link_capture.specs.declared.options.Clock.{Clock};
 ghost use Rattle.link_capture.specs.declared.order.Order.{Order};
 ghost use Rattle.link_capture.specs.declared.other_format.OtherFormat.{OtherFormat};
 ghost use Rattle.link_capture.specs.declared.pcapng.Interface.{Interface};
-ghost use Rattle.link_capture.specs.Form.{form_of, begins_magic};
+ghost use Rattle.link_capture.specs.Form.{form_of, needs_more};
 ghost use Rattle.link_capture.specs.Same.{IsSameNext};
 ghost use Rattle.link_capture.specs.Meaning.{UnitMeaning, captured_of, meaning_of};
 ghost use Rattle.link_capture.specs.Unit.{IsFinal, Reads};
@@ -44,10 +44,11 @@ pub fn prefix()
 {}
 
 /// States when the first bytes of a file tell its form, or its other format ([`Form::of_file`]): whatever follows, if they
-/// are not a proper prefix of a magic number. Otherwise they tell nothing, and with what follows they may.
+/// are not a proper prefix of a magic number, or of the length and the type of a message. Otherwise they tell nothing, and
+/// with what follows they may.
 pub fn known_form()
-    ensures known { (s more : List ℕ) → begins_magic s ≡ false → form_of (s ++ more) ≡ form_of s }
-    ensures begun { (s : List ℕ) → begins_magic s ≡ true → (form_of s ≡ Ok None)
+    ensures known { (s more : List ℕ) → needs_more s ≡ false → form_of (s ++ more) ≡ form_of s }
+    ensures begun { (s : List ℕ) → needs_more s ≡ true → (form_of s ≡ Ok None)
         × ((more : List ℕ) × (form_of (s ++ more) ≢ Ok None)) }
 {}
 

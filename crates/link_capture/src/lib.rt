@@ -9,6 +9,7 @@ mod event;
 mod form;
 mod front;
 pub mod laws;
+mod messages;
 mod options;
 mod order;
 mod other_format;

@@ -6,7 +6,7 @@ ghost use Rattle.link_capture.specs.OtherFormat.{format_text};
 use std::error::Error;
 use std::fmt;
 
-/// What a file is, by its magic number, if that is neither of pcap nor of pcapng. Its text also says what to do.
+/// What a file is, by its first bytes, if it is neither pcap nor pcapng, and not lines. Its text also says what to do.
 #[derive(Clone, Copy, Debug, PartialEq, Eq)]
 pub enum OtherFormat {
     /// `gzip` (RFC 1952): 1f 8b.
@@ -23,6 +23,9 @@ pub enum OtherFormat {
     ModifiedPcap,
     /// Captures of `snoop` (RFC 1761).
     Snoop,
+    /// Netlink messages, one after another, as `rtmon` writes them: the first has a length from 16 to 65,536, and a type from
+    /// NLMSG_NOOP to NLMSG_OVERRUN, 15 or from RTM_BASE to RTM_MAX.
+    Messages,
 }
 
 impl fmt::Display for OtherFormat {
@@ -40,6 +43,9 @@ impl fmt::Display for OtherFormat {
             }
             OtherFormat::Snoop => {
                 "snoop file: convert it first, as in editcap -F pcapng FILE - | nlshow"
+            }
+            OtherFormat::Messages => {
+                "raw netlink messages: read them with --raw, as in nlshow --raw FILE"
             }
         })
     }

@@ -30,7 +30,7 @@ use Rattle.link_show.specs.Value.{counted_in}
 use Rattle.link_show.proofs.HeldPrinting.{rows_text}
 use Rattle.link_show.proofs.ValuePrinting.{IsLabelText}
 use Rattle.link_json.specs.Doc.{items_of, array_of}
-use Rattle.link_json.specs.Value.{whole_link, number_or_address, content_json, unit_of}
+use Rattle.link_json.specs.Value.{whole_link, number_or_address, content_json, unit_in}
 use Rattle.link_json.specs.Link.{ShowsLink}
 use Rattle.link_json.specs.List.{ShowsFlat, ShowsPlain, shows_leaf, held_json, nest_json, elements, ShowsList, if_sized}
 use Rattle.link_json.proofs.Keys.{are_distinct}
@@ -81,7 +81,7 @@ module _ {d : ℕ} where
 
   plain_sound : (label : Option Label) (b : NlaBuffer) (content : Content) (j : Json) → IsLabelText label → IsKeyed label content → ShowsPlain label b content j → IsSound (above 4 d) j
   plain_sound None b content j l f e = rw e (element_sound _ _ None (string_sound _) (raw_sound (kind_field_of b) (payload_of b)))
-  plain_sound (Some label) b content j l f (value, shown, e) = rw e (element_sound _ value (unit_of label.quantity) (string_sound _) (flat_sound label content value l f shown))
+  plain_sound (Some label) b content j l f (value, shown, e) = rw e (element_sound _ value (unit_in label.quantity content) (string_sound _) (flat_sound label content value l f shown))
 
   leaf_sound : (state : Bool) (label : Option Label) (b : NlaBuffer) (content : Content) (j : Json) → IsLabelText label → IsKeyed label content → shows_leaf state label b content j → IsSound (above 4 d) j
   leaf_sound true label b content j l f e = rw e (element_sound _ _ None (string_sound _) (named_sound _ _))

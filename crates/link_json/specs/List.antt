@@ -52,7 +52,7 @@ ShowsFlat label content value = value ≡ content_json label content
 -- the attribute b with this content
 abbrev pub ShowsPlain : Option Label → NlaBuffer → Content → Json → Type 0
 ShowsPlain None b content j = j ≡ unnamed_json (kind_field_of b) (payload_of b)
-ShowsPlain (Some label) b content j = (value : Json) × ShowsFlat label content value × (j ≡ labelled_json label value)
+ShowsPlain (Some label) b content j = (value : Json) × ShowsFlat label content value × (j ≡ labelled_json label content value)
 
 -- the STP state of a bridge port
 abbrev pub state_json : List ℕ → Json

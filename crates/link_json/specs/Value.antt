@@ -181,9 +181,19 @@ abbrev pub unit_fields : Option (List ℕ) → List Field
 unit_fields None = []
 unit_fields (Some unit) = (codes "unit", string unit) ∷ []
 
--- an attribute: its name, its value, and the unit, if the value is a number that has one, or several
-abbrev pub labelled_json : Label → Json → Json
-labelled_json label value = element_json (string (short_name label.prefix label.name)) value (unit_fields (unit_of label.quantity))
+-- the unit of bytes: that of the number in them, if there is one
+abbrev pub bytes_unit : Quantity → Option ℕ → Option (List ℕ)
+bytes_unit quantity None = None
+bytes_unit quantity (Some n) = unit_of quantity
+
+-- the unit of a content
+abbrev pub unit_in : Quantity → Content → Option (List ℕ)
+unit_in quantity (contents.Bytes looks.Address p) = bytes_unit quantity (counted_in quantity p.now)
+unit_in quantity content = unit_of quantity
+
+-- an attribute with this content: its name, its value, and the unit, if the value is a number that has one, or several
+abbrev pub labelled_json : Label → Content → Json → Json
+labelled_json label content value = element_json (string (short_name label.prefix label.name)) value (unit_fields (unit_in label.quantity content))
 
 -- ---- attributes that are not decoded
 

@@ -127,7 +127,7 @@ fn write_labelled(
     doc.short_name(label.prefix, label.name)?;
     doc.key("value")?;
     write_flat(doc, label, content)?;
-    write_unit(doc, label.quantity)?;
+    write_unit(doc, label.quantity, content)?;
     doc.end_object()
 }
 

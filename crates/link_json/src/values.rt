@@ -9,7 +9,7 @@ ghost use Rattle.link_base.specs.Labels.{label_of};
 ghost use Rattle.link_show.specs.Octets.{ip6_text};
 ghost use Rattle.link_show.specs.Value.{counted_in};
 ghost use Rattle.link_json.specs.Doc.{fields_tokens};
-ghost use Rattle.link_json.specs.Value.{content_json, number_or_address, protocol_json, unit_of, unit_fields, raw_json, unnamed_json};
+ghost use Rattle.link_json.specs.Value.{content_json, number_or_address, protocol_json, bytes_unit, unit_in, unit_of, unit_fields, raw_json, unnamed_json};
 
 use crate::document::Document;
 use crate::numbers::{write_flags, write_numbers};
@@ -97,16 +97,43 @@ fn write_protocol(doc: &mut Document, protocol: VlanProtocol) -> Result<(), Allo
     write_named(doc, number.into(), Some(protocol_name(protocol)))
 }
 
-/// Writes the member with the unit of a number, if it has one.
-pub(crate) fn write_unit(doc: &mut Document, quantity: Quantity) -> Result<(), AllocError>
-    ensures { OnOk result (doc.new ≡ doc.old ++ fields_tokens (unit_fields (unit_of quantity))) }
+/// Writes the member with the unit of a content, if it has one.
+pub(crate) fn write_unit(
+    doc: &mut Document,
+    quantity: Quantity,
+    content: Content<'_>,
+) -> Result<(), AllocError>
+    ensures { OnOk result (doc.new ≡ doc.old ++ fields_tokens (unit_fields (unit_in quantity content.entry))) }
 {
-    match unit_of(quantity) {
+    match unit_in(quantity, content) {
         Some(unit) => {
             doc.key("unit")?;
             doc.string(unit)
         }
         None => Ok(()),
+    }
+}
+
+/// Returns the unit of a content.
+fn unit_in(quantity: Quantity, content: Content<'_>) -> Option<&'static str>
+    ensures { option_map (λ text. text.now) result ≡ unit_in quantity content.entry }
+{
+    match content {
+        Content::Bytes {
+            look: Look::Address,
+            bytes,
+        } => bytes_unit(quantity, bytes),
+        _ => unit_of(quantity),
+    }
+}
+
+/// Returns the unit of bytes: that of the number in them, if there is one.
+fn bytes_unit(quantity: Quantity, bytes: &[u8]) -> Option<&'static str>
+    ensures { option_map (λ text. text.now) result ≡ bytes_unit quantity (counted_in quantity bytes.now) }
+{
+    match counted_in(quantity, bytes) {
+        Some(_) => unit_of(quantity),
+        None => None,
     }
 }
 

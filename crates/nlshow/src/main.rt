@@ -8,7 +8,7 @@
 //! - `message HEX`: the bytes of messages.
 //!
 //! White space separates the words. Blank lines, and lines that begin with `#`, are ignored. The FILE `-` is standard
-//! input. Wrong arguments and a failed write are reported on standard error,
+//! input. Wrong arguments, and why a FILE cannot be opened or read, are reported on standard error, and so is a failed write,
 //! unless nobody reads what is written.
 #![tactic(auto)]
 
@@ -20,9 +20,10 @@ ghost use Rattle.std.specs.Option.{option_copied};
 ghost use Rattle.std.specs.Io.Buffered.{writer_buffer, writer_inner};
 ghost use Rattle.std.specs.Io.KnownBytes.{Appends};
 ghost use Rattle.link_show.specs.Quoted.{quoted};
-ghost use Rattle.nlshow.specs.Runs.{IsSource, IsText, IsUnopened, RunsFile, RunsInput, RunsOn, RunsTask, goes_on, name_line};
+ghost use Rattle.nlshow.specs.Runs.{IsSource, IsText, IsUnopened, RunsFile, RunsInput, RunsOn, RunsTask, goes_on, name_line, read_reason, told_name};
 ghost use Rattle.program.specs.Printing.{PrintsOrFails, PrintsOrEnds, no_memory_line};
-ghost use Rattle.program.specs.UntilEnd.{left_of};
+ghost use Rattle.program.specs.UnitMeaning.{Tells, told};
+ghost use Rattle.program.specs.UntilEnd.{errno_of, left_of};
 ghost use Rattle.program.specs.Watched.{given, has_failed, passed_on};
 ghost use Rattle.show_lines.specs.Arguments.{IsError, IsRequest, IsWrong, reply_status, reply_text};
 ghost use Rattle.show_lines.specs.Command.{Asks};
@@ -33,7 +34,7 @@ use program::{
     UntilEnd, Watched, collect_arguments, end_failed, print, print_no_memory, print_text,
     print_write_fault, unbuffered,
 };
-use show_captures::run;
+use show_captures::{run, tell_reason};
 use show_json::{Json, write_unopened};
 use show_lines::{Output, Reply, Request, Task, parse, wrong};
 use std::alloc::{AllocError, Global};
@@ -46,7 +47,7 @@ use std::{fs, io};
 const NOT_UTF8: &str = "error: an argument is not UTF-8; read such a file by nlshow < FILE";
 
 fn main(rt: HostRuntime) -> ExitCode {
-    let mut errors = rt.stderr();
+    let mut errors = Watched::new(rt.stderr());
     let mut plain = unbuffered(rt.alloc(), Watched::new(io::writer(&rt)));
     let request = match collect_arguments(&rt) {
         Ok(words) => request_of(rt.alloc(), words),
@@ -56,7 +57,7 @@ fn main(rt: HostRuntime) -> ExitCode {
         Ok(Request::Run(task)) => {
             match BufWriter::new(rt.alloc(), Watched::new(io::writer(&rt))) {
                 Ok(mut writer) => {
-                    let status = run_task(&rt, &task, &mut writer);
+                    let status = run_task(&rt, &task, &mut writer, &mut errors);
                     let _ = print_write_fault(&writer, &mut errors);
                     status
                 }
@@ -103,31 +104,27 @@ fn request_of(alloc: Global, words: Option<Vec<String>>) -> Result<Request, Allo
 }
 
 /// Runs on standard input, or on each file of `task` in order. Nothing more is read after a failed allocation, or when the
-/// writer has failed. Returns the greatest exit status.
-fn run_task<R: Files + Input + AllocGlobal, W: Write + Drop>(
+/// writer has failed. Why a file cannot be opened or read is written to `errors`. Returns the greatest exit status.
+fn run_task<R: Files + Input + AllocGlobal, W: Write + Drop, E: Write>(
     rt: &R,
     task: &Task,
     writer: &mut BufWriter<Watched<W>>,
+    errors: &mut Watched<E>,
 ) -> u8
     ensures input { task.now.files.items ≡ [] → RunsInput R.Reader.remaining task.now.output task.now.raw
-        (given W.contents writer.old) (passed_on W.contents writer.new) (has_failed (writer_inner writer.new)) result }
+        (given W.contents writer.old) (passed_on W.contents writer.new) (has_failed (writer_inner writer.new)) result
+        (told E.contents errors.old) (told E.contents errors.new) }
     ensures files { task.now.files.items ≢ [] → RunsTask (IsSource R.Reader.remaining R.File.remaining) task.now.output task.now.raw
         (map string_bytes task.now.files.items) (given W.contents writer.old) (passed_on W.contents writer.new)
-        (has_failed (writer_inner writer.new)) result }
+        (has_failed (writer_inner writer.new)) result (told E.contents errors.old) (told E.contents errors.new) }
 {
     if task.files.is_empty() {
-        return run_on(
-            rt.alloc(),
-            task.output,
-            task.raw,
-            None,
-            &mut UntilEnd::new(rt.reader()),
-            writer,
-        );
+        let reader = &mut UntilEnd::new(rt.reader());
+        return run_told(rt.alloc(), task, None, reader, writer, errors);
     }
     let mut greatest = 0;
     for name in &task.files {
-        let status = run_file(rt, task, name.as_str(), writer);
+        let status = run_file(rt, task, name.as_str(), writer, errors);
         greatest = greatest.max(status);
         if !goes_on(status, writer) {
             break;
@@ -142,6 +139,38 @@ fn goes_on<W: Write + Drop>(status: u8, writer: &BufWriter<Watched<W>>) -> bool
     ensures { result ≡ goes_on status (has_failed (writer_inner writer.now)) }
 {
     status != 4 && !writer.get_ref().has_failed()
+}
+
+/// Runs on an input: a file with this name, or standard input. Writes to `errors` why a read failed. Returns the exit status.
+fn run_told<R: Read, W: Write + Drop, E: Write>(
+    alloc: Global,
+    task: &Task,
+    file: Option<&str>,
+    reader: &mut UntilEnd<R>,
+    writer: &mut BufWriter<Watched<W>>,
+    errors: &mut Watched<E>,
+) -> u8
+    ensures run { RunsOn task.now.output (option_copied file.entry) task.now.raw (left_of R.remaining reader.old) (left_of R.remaining reader.new)
+        (given W.contents writer.old) (passed_on W.contents writer.new) (has_failed (writer_inner writer.new)) result }
+    ensures told { Tells (told E.contents errors.old) (told E.contents errors.new)
+        (read_reason (told_name (option_copied file.entry)) (errno_of reader.new) result (has_failed (writer_inner writer.new))) }
+    ensures unfailed { has_failed (writer_inner writer.new) ≡ false → writer_buffer writer.new ≡ [] }
+{
+    let status = run_on(alloc, task.output, task.raw, file, reader, writer);
+    if status == 5 && !writer.get_ref().has_failed() {
+        tell_reason(errors, told_name(file), reader.errno(), "read fault");
+    }
+    status
+}
+
+/// Returns the name of an input on standard error: `-` for standard input.
+fn told_name<'a>(file: Option<&'a str>) -> &'a str
+    ensures { result.now ≡ told_name (option_copied file.entry) }
+{
+    match file {
+        Some(name) => name,
+        None => "-",
+    }
 }
 
 /// Runs on an input: a file with this name, or standard input. Returns the exit status.
@@ -166,36 +195,37 @@ fn run_on<R: Read, W: Write + Drop>(
     }
 }
 
-/// Writes the line with the name of a file, which JSON does not have, and runs on the file; `-` is standard input. Returns
-/// the exit status, which is 5 if the file cannot be opened.
-fn run_file<R: Files + Input + AllocGlobal, W: Write + Drop>(
+/// Writes the line with the name of a file, which JSON does not have, and runs on the file; `-` is standard input. Writes to
+/// `errors` why it cannot be opened or read. Returns the exit status, which then is 5.
+fn run_file<R: Files + Input + AllocGlobal, W: Write + Drop, E: Write>(
     rt: &R,
     task: &Task,
     name: &str,
     writer: &mut BufWriter<Watched<W>>,
+    errors: &mut Watched<E>,
 ) -> u8
     ensures run { RunsFile (IsSource R.Reader.remaining R.File.remaining) task.now.output task.now.raw name.now
-        (given W.contents writer.old) (passed_on W.contents writer.new) (has_failed (writer_inner writer.new)) result }
+        (given W.contents writer.old) (passed_on W.contents writer.new) (has_failed (writer_inner writer.new)) result
+        (told E.contents errors.old) (told E.contents errors.new) }
     ensures unfailed { has_failed (writer_inner writer.new) ≡ false → writer_buffer writer.new ≡ [] }
 {
     if write_name(writer, task.output, name).is_err() {
         return end_failed(writer);
     }
-    let (alloc, output, raw) = (rt.alloc(), task.output, task.raw);
     if name == "-" {
         let reader = &mut UntilEnd::new(rt.reader());
-        return run_on(alloc, output, raw, Some(name), reader, writer);
+        return run_told(rt.alloc(), task, Some(name), reader, writer, errors);
     }
     match fs::open(rt, name) {
-        Ok(file) => run_on(
-            alloc,
-            output,
-            raw,
-            Some(name),
-            &mut UntilEnd::new(file),
-            writer,
-        ),
-        Err(_) => end_unopened(alloc, output, name, writer),
+        Ok(file) => {
+            let reader = &mut UntilEnd::new(file);
+            run_told(rt.alloc(), task, Some(name), reader, writer, errors)
+        }
+        Err(error) => {
+            let status = end_unopened(rt.alloc(), task.output, name, writer);
+            tell_reason(errors, name, error.raw_os_error(), "cannot open");
+            status
+        }
     }
 }
 

@@ -144,8 +144,8 @@ fn last_lines(rt: HostRuntime) {
         ("# dsa 0", "", 0),
         ("dsa 0800 0100 2a00 0000", SHOWN, 0),
         ("dsa 0800 0100 2a00 0000\n", SHOWN, 0),
-        ("dsa 0\ndsa", "dsa 0\nbad hex\ndsa\n", 1),
-        ("dsa\ndsa 0", "dsa\ndsa 0\nbad hex\n", 1),
+        ("dsa 0\ndsa", "dsa 0\nbad hex at column 5\ndsa\n", 1),
+        ("dsa\ndsa 0", "dsa\ndsa 0\nbad hex at column 5\n", 1),
     ] {
         shows(&rt, rt.alloc(), text.as_bytes(), shown.as_bytes(), status);
     }
@@ -202,16 +202,16 @@ const ROWS: [(&[u8], &str); 7] = [
     (b"hsr 03\n", "hsr 03\nfault at 0: short frame 1\n"),
 ];
 
-/// Input lines, each with its output in the plain form with `--check`. The first has one byte.
+/// Input lines, each with its output in the plain form with `--check`. The first has two bytes.
 const CHECKED_ROWS: [(&[u8], &str); 7] = [
-    (b"a\n", "a\nno such family\n"),
+    (b"ab\n", "ab\nno such family\n"),
     (b"dsa\n", "dsa\n  canonical\n"),
     (
         b"dsa 0800 0100 2a00 0000 03\n",
         "dsa 0800 0100 2a00 0000 03\n  IFLA_DSA_CONDUIT ifindex 42\n  error at 8: 1 byte left, too few for an attribute header\n  not canonical at 8\n",
     ),
     (b"tap\n", "tap\nno such family\n"),
-    (b"dsa 0\n", "dsa 0\nbad hex\n"),
+    (b"dsa 0\n", "dsa 0\nbad hex at column 5\n"),
     (b"check hsr\n", "check hsr\ncanonical\n"),
     (
         b"message 20000000 10000500 01000000 00000000 00000000 03000000 01000000 01000000 20000000 01\n",

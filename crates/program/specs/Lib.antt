@@ -1,3 +1,4 @@
 pub mod Printing
+pub mod Told
 pub mod UntilEnd
 pub mod Watched

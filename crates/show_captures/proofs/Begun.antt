@@ -2,18 +2,18 @@
 use Rattle.std.proofs.Common.{◌≡◌, ◌≤◌, ℕ, Bool, true, List, [], ◌++◌, Option, length, refl, sym, ap, subst, ◌∙◌, arith}
 use Rattle.std.specs.Io.KnownBytes.{Consumes, IsAtEnd}
 use Rattle.std.proofs.KnownBytes.{Consumes-trans}
-use Rattle.link_capture.specs.Form.{begins_magic}
+use Rattle.link_capture.specs.Form.{needs_more}
 use Rattle.show_captures.specs.Progress.{AreFirst, ReadsOn}
 
--- the bytes may begin a magic number
+-- the bytes are too few to tell the form
 pub record MayBegin (s : List ℕ) : Type 0 where
-  pub begins : begins_magic s ≡ true
+  pub begins : needs_more s ≡ true
 
 pub none_begin : (s : List ℕ) → s ≡ [] → MayBegin s
-none_begin s e = record { begins = subst (λ l. begins_magic l ≡ true) (sym e) refl }
+none_begin s e = record { begins = subst (λ l. needs_more l ≡ true) (sym e) refl }
 
-pub may_begin : (s l : List ℕ) (more : Bool) → more ≡ true → more ≡ begins_magic l → l ≡ s → MayBegin s
-may_begin s l more needs h same = record { begins = sym (ap begins_magic same) ∙ (sym h ∙ needs) }
+pub may_begin : (s l : List ℕ) (more : Bool) → more ≡ true → more ≡ needs_more l → l ≡ s → MayBegin s
+may_begin s l more needs h same = record { begins = sym (ap needs_more same) ∙ (sym h ∙ needs) }
 
 -- one more read
 pub read_more : (held after : List ℕ) (r s t : Option (List ℕ)) (n : ℕ) → Consumes r s held → ReadsOn held after s t n → Consumes r t after

@@ -6,7 +6,7 @@ use Rattle.std.specs.Io.KnownBytes.{Appends, Consumes, Keeps, IsAtEnd}
 use Rattle.std.proofs.KnownBytes.{Appends-nil, Appends-trans, Appends-kept, Consumes-trans}
 use Rattle.link_capture.specs.declared.form.Form.{Form}
 use Rattle.link_capture.specs.declared.other_format.OtherFormat.{OtherFormat}
-use Rattle.link_capture.specs.Form.{begins_magic}
+use Rattle.link_capture.specs.Form.{needs_more}
 use Rattle.link_capture.proofs.Forms.{form_kept}
 use Rattle.program.specs.Printing.{FlushesOrFails}
 use Rattle.show_lines.specs.Show.{ShowsAll}
@@ -18,7 +18,7 @@ use Rattle.show_captures.specs.Run.{RunsCapture, RunsFrom, Runs, RunsFor, ShowsF
 use Rattle.show_captures.specs.Shower.{InputShower}
 
 -- what follows bytes that tell the form does not change it
-form_known : (raw : Bool) (first rest : List ℕ) → begins_magic first ≡ false → input_form raw (first ++ rest) ≡ input_form raw first
+form_known : (raw : Bool) (first rest : List ℕ) → needs_more first ≡ false → input_form raw (first ++ rest) ≡ input_form raw first
 form_known true first rest h = refl
 form_known false first rest h = form_kept first rest h
 
@@ -33,7 +33,7 @@ all_of : (s : Option (List ℕ)) (first more : List ℕ) → IsAtEnd s → MayFo
 all_of s first more end may = ap (λ m. first ++ m) (may end) ∙ append-nil first
 
 -- what follows does not change the form that is known, by bytes that are all or that tell it
-same_form : (raw is_last : Bool) (first more : List ℕ) (s : Option (List ℕ)) → (is_last ≡ true → IsAtEnd s) → (is_last ≡ false → begins_magic first ≡ false) → MayFollow s more → input_form raw (first ++ more) ≡ input_form raw first
+same_form : (raw is_last : Bool) (first more : List ℕ) (s : Option (List ℕ)) → (is_last ≡ true → IsAtEnd s) → (is_last ≡ false → needs_more first ≡ false) → MayFollow s more → input_form raw (first ++ more) ≡ input_form raw first
 same_form raw true first more s ends tells may = ap (input_form raw) (all_of s first more (ends refl) may)
 same_form raw false first more s ends tells may = form_known raw first more (tells refl)
 
@@ -58,7 +58,7 @@ module _ {shower : InputShower} where
 
   module _ (raw : Bool) (form : Option Form) (first : List ℕ) (r s t w v u : Option (List ℕ)) (whole : Bool) (is : input_form raw first ≡ Ok form) where
     -- the first bytes are not all
-    pub runs_on : Consumes r s first → Keeps w v → begins_magic first ≡ false → RunsFrom shower form first s t v u whole → RunsFor shower raw r t w u (if whole then 0 else 1)
+    pub runs_on : Consumes r s first → Keeps w v → needs_more first ≡ false → RunsFrom shower form first s t v u whole → RunsFor shower raw r t w u (if whole then 0 else 1)
     runs_on read keeps tells h =
         let run : Runs shower raw r t w u whole = record {
           text = first ++ h.text;
@@ -87,7 +87,7 @@ module _ {shower : InputShower} where
         nothing = ap (λ l. first ++ (l ++ [])) (empty_left t h.text h.read) ∙ append-nil first
 
   -- the first bytes tell another format, and may be all
-  pub runs_other : (raw is_last : Bool) (format : OtherFormat) (first : List ℕ) (r s w v u : Option (List ℕ)) → input_form raw first ≡ Err format → Consumes r s first → (is_last ≡ true → IsAtEnd s) → (is_last ≡ false → begins_magic first ≡ false) → Keeps w v → Appends v u (shower.units.formats format)
+  pub runs_other : (raw is_last : Bool) (format : OtherFormat) (first : List ℕ) (r s w v u : Option (List ℕ)) → input_form raw first ≡ Err format → Consumes r s first → (is_last ≡ true → IsAtEnd s) → (is_last ≡ false → needs_more first ≡ false) → Keeps w v → Appends v u (shower.units.formats format)
       → RunsFor shower raw r s w u 2
   runs_other raw is_last format first r s w v u is read ends tells keeps written =
       let out = shower.units.formats format in

@@ -154,6 +154,7 @@ format_is_text formats.Bzip2 = text refl
 format_is_text formats.Lz4 = text refl
 format_is_text formats.ModifiedPcap = text refl
 format_is_text formats.Snoop = text refl
+format_is_text formats.Messages = text refl
 
 end_texts : (options : Options) (fault : Option (ℕ × InputError)) → AreTexts (end_line (units_by_options options) fault)
 end_texts options None = no_texts

@@ -4,6 +4,7 @@ pub mod Event
 pub mod Packet
 pub mod Progress
 pub mod Protocol
+pub mod Reason
 pub mod Run
 pub mod Shower
 pub mod Time

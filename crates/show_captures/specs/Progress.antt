@@ -4,7 +4,7 @@ use Rattle.std.specs.Io.KnownBytes.{Appends, Consumes, IsAtEnd}
 use Rattle.link_capture.specs.declared.error.InputError.{InputError}
 use Rattle.link_capture.specs.declared.form.Form.{Form}
 use Rattle.link_capture.specs.Meaning.{UnitMeaning}
-use Rattle.link_capture.specs.Form.{begins_magic}
+use Rattle.link_capture.specs.Form.{needs_more}
 use Rattle.link_capture.specs.Unit.{Leads, IsEnd, IsTooShort, Follows}
 use Rattle.link_show.specs.List.{EachShown}
 use Rattle.show_captures.specs.declared.place.Place.{Place}
@@ -48,12 +48,12 @@ abbrev pub ReadsOn : List ℕ → List ℕ → Option (List ℕ) → Option (Lis
 ReadsOn held_before held_after left_before left_after n =
     (piece : List ℕ) × (held_after ≡ held_before ++ piece) × Consumes left_before left_after piece × (n ≡ length piece) × (n ≡ 0 → IsAtEnd left_after)
 
--- the first bytes of an input, of which a read takes at most n: those before the last read may begin a magic number
+-- the first bytes of an input, of which a read takes at most n: those before the last read are too few to tell the form
 pub record AreFirst (n : ℕ) (s : List ℕ) : Type 0 where
   pub before : List ℕ
   pub piece : List ℕ
   pub joined : s ≡ before ++ piece
-  pub begins : begins_magic before ≡ true
+  pub begins : needs_more before ≡ true
   pub few : length piece ≤ n
 
 -- the output for the units of these bytes was written, as far as they are whole, and what is left is too short for a unit; or with

@@ -3,7 +3,7 @@
 ghost use Rattle.std.specs.Prelude.{◌<◌, ◌≡◌, length, true, false, IfOk};
 ghost use Rattle.std.specs.Io.Buffered.{writer_contents};
 ghost use Rattle.std.specs.Io.KnownBytes.{Consumes, IsAtEnd, Keeps};
-ghost use Rattle.link_capture.specs.Form.{begins_magic};
+ghost use Rattle.link_capture.specs.Form.{needs_more};
 ghost use Rattle.show_captures.specs.Progress.{AreFirst};
 ghost use Rattle.show_lines.specs.Pieces.{IfWritten};
 
@@ -30,7 +30,7 @@ pub(crate) fn read_first<R: Read, W: Write + Drop>(
     requires { 0 < length chunk.old }
     ensures read { IfOk result (λ first. Consumes (R.remaining reader.old) (R.remaining reader.new) first.bytes.items) }
     ensures last { IfOk result (λ first. first.is_last ≡ true → IsAtEnd (R.remaining reader.new)) }
-    ensures known { IfOk result (λ first. first.is_last ≡ false → begins_magic first.bytes.items ≡ false) }
+    ensures known { IfOk result (λ first. first.is_last ≡ false → needs_more first.bytes.items ≡ false) }
     ensures kept { IfWritten result (Keeps (writer_contents W.contents writer.old) (writer_contents W.contents writer.new)) }
     // No more was read than tells the form, but for the rest of one read.
     ensures needed { IfOk result (λ first. AreFirst (length chunk.old) first.bytes.items) }

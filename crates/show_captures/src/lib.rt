@@ -9,6 +9,7 @@ pub mod laws;
 mod packets;
 mod place;
 mod protocols;
+mod reasons;
 mod running;
 mod show;
 mod times;
@@ -16,6 +17,7 @@ mod units;
 
 pub use packets::{Carried, carried_by, protocol_in};
 pub use protocols::name_of_protocol;
+pub use reasons::tell_reason;
 pub use running::run;
 pub use show::ShowUnits;
 pub use times::utc_text;

@@ -24,8 +24,8 @@ use std::io::{BufWriter, Read, Write};
 const CHUNK: usize = 65_536;
 
 /// Reads an input up to its end, or to an error that ends it, writes the output for it and flushes that. The input is a
-/// stream of messages, if `raw` is set; otherwise, by its first bytes, a pcap or pcapng file, a file in another format, of which
-/// nothing more is read, or else lines. Whenever it reads more, the output for all that it has read is written, and nothing is
+/// stream of messages, if `raw` is set; otherwise, by its first bytes, a pcap or pcapng file, a file in another format, which may
+/// be such a stream and of which nothing more is read, or else lines. Whenever it reads more, the output for all that it has read is written, and nothing is
 /// left in the buffer of `writer`. Returns the exit status:
 ///
 /// - 0 if there is no error;

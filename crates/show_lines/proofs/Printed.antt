@@ -17,7 +17,7 @@ use Rattle.link_show.specs.declared.line_options.LineOptions.{LineOptions}
 use Rattle.link_messages.specs.Held.{context_of}
 use Rattle.link_show.specs.Printable.{IsText, AreTexts}
 use Rattle.link_show.specs.Quoted.{quoted}
-use Rattle.link_show.proofs.Printing.{text as is_text, none, quoted_text}
+use Rattle.link_show.proofs.Printing.{text as is_text, none, and, decimal_text, quoted_text}
 use Rattle.link_show.proofs.LinePrinting.{line_end, line_texts, verdict_texts}
 use Rattle.link_show.proofs.HeldPrinting.{checked_texts}
 use Rattle.link_show.proofs.MessagePrinting.{messages_texts}
@@ -25,6 +25,7 @@ use Rattle.show_lines.specs.declared.asking.Asked.{Asked}
 use Rattle.show_lines.specs.declared.asking.Asked.TheVariants.{Messages, Attributes, Verdict}
 use Rattle.show_lines.specs.declared.arguments.Options.{Options}
 use Rattle.show_lines.specs.declared.arguments.Format.TheVariants.{Plain}
+use Rattle.show_lines.specs.Digits.{bad_column, bad_hex, without_marks}
 use Rattle.show_lines.specs.Show.{ShowsPlain, ShowsAs, ShowsDigits, TooLong, PassedOver, Known, Unknown, refused_by_options, answered_by_options, by_options, is_repeated, repeated, numbered, ShowsAll}
 use Rattle.show_lines.specs.Printed.{IsTabbed, AreLinesFrom, IsOneOf, Repeats}
 use Rattle.show_lines.proofs.Cuts.{all_append, all_each}
@@ -86,17 +87,17 @@ module _ (options : Options) (plain : options.format ≡ Plain) where
   below_made text below h =
       let from : List ℕ → Type 0 = λ l. l ≡ repeated text in made_and from (line (repeated text)) below (made_line from (repeated text) (repeated_tabbed text) refl) (made_texts from below h)
 
-  digits_made : (x : ℕ × List ℕ) (asked : Asked) (digits : List ℕ) (r : Result (List ℕ) FromHexError) (out : List ℕ) (well : Bool) → decode_of digits ≡ r
-      → ShowsDigits (refused_by_options options) (answered_by_options options) x asked r out well → AreLinesFrom (λ l. l ≡ repeated x.1) out
-  digits_made x asked digits (Ok s) out well e (below, shown, is) =
+  digits_made : (x : ℕ × List ℕ) (asked : Asked) (column : ℕ) (digits : List ℕ) (r : Result (List ℕ) FromHexError) (out : List ℕ) (well : Bool) → decode_of digits ≡ r
+      → ShowsDigits (refused_by_options options) (answered_by_options options) x asked column r out well → AreLinesFrom (λ l. l ≡ repeated x.1) out
+  digits_made x asked column digits (Ok s) out well e (below, shown, is) =
       let now = subst (λ format. ShowsAs format options.lines asked s below well) plain shown in
       rw is (below_made x.1 below (asked_texts options.lines asked s below well (index_bytes s (decode_of-ok digits s e).3) now))
-  digits_made x asked digits (Err error) out well e (is, bad) = rw is (below_made x.1 (line (codes "bad hex")) (line_texts (line_end {t = codes "bad hex"} (is_text refl))))
+  digits_made x asked column digits (Err error) out well e (is, bad) = rw is (below_made x.1 (line (bad_hex column)) (line_texts (line_end {t = bad_hex column} (and {s = codes "bad hex at column "} (is_text refl) (decimal_text column)))))
 
   line_made : (x : ℕ × List ℕ) (out : List ℕ) (well : Bool) → by_options options x out well → AreLinesFrom (λ l. l ≡ repeated x.1) out
   line_made x out well (TooLong long is bad) = rw is (made_texts (λ l. l ≡ repeated x.1) (line (codes "input too long")) (line_texts (line_end {t = codes "input too long"} (is_text refl))))
   line_made x out well (PassedOver short over is good) = rw is (made_none (λ l. l ≡ repeated x.1))
-  line_made x out well (Known short over asked rest asks shown) = digits_made x asked (digits_of rest) (decode_of (digits_of rest)) out well refl shown
+  line_made x out well (Known short over asked rest asks shown) = digits_made x asked (bad_column x.1 rest) (digits_of (without_marks rest)) (decode_of (digits_of (without_marks rest))) out well refl shown
   line_made x out well (Unknown short over nothing is bad) = rw is (below_made x.1 (line (codes "no such family")) (line_texts (line_end {t = codes "no such family"} (is_text refl))))
 
   answers_made : (n : ℕ) (lines : List (List ℕ)) (answers : List (List ℕ × Bool)) → AllZip (λ x a. by_options options x a.0 a.1) (numbered n lines) answers → AreLinesFrom (IsOneOf (map repeated lines)) (flat_map (λ a. a.0) answers)

@@ -1,5 +1,6 @@
 pub mod Arguments
 pub mod Command
+pub mod Digits
 pub mod List
 pub mod Messages
 pub mod Pieces

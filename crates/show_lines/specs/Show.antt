@@ -11,6 +11,7 @@ use Rattle.netlink_packet_route.specs.HexText.{is_space, digits_of}
 use Rattle.netlink_packet_route.specs.Report.{line, most_text}
 use Rattle.show_lines.specs.declared.asking.Asked.{Asked}
 use Rattle.show_lines.specs.declared.asking.Asked.TheVariants.{Messages, Attributes, Verdict}
+use Rattle.show_lines.specs.Digits.{bad_column, bad_hex, without_marks}
 pub use Rattle.show_lines.specs.List.{IsUnbroken}
 use Rattle.show_lines.specs.Messages.{ShowsMessages, ShowsLists}
 use Rattle.show_lines.specs.declared.arguments.Options.{Options}
@@ -112,16 +113,16 @@ Refused = ℕ → Option (List ℕ) → List ℕ → List ℕ
 abbrev pub Answered : Type 1
 Answered = ℕ × List ℕ → Form
 
--- the output for the digits of a line: the one for the bytes that they encode, or that they are not valid hex
-abbrev pub ShowsDigits : Refused → Answered → ℕ × List ℕ → Asked → Result (List ℕ) FromHexError → List ℕ → Bool → Type 0
-ShowsDigits refused answered x asked (Ok s) out read = answered x asked s out read
-ShowsDigits refused answered x asked (Err e) out read = (out ≡ refused x.0 (Some x.1) (codes "bad hex")) × (read ≡ false)
+-- the output for the digits of a line: the one for the bytes that they encode, or that they are not valid hex at a column
+abbrev pub ShowsDigits : Refused → Answered → ℕ × List ℕ → Asked → ℕ → Result (List ℕ) FromHexError → List ℕ → Bool → Type 0
+ShowsDigits refused answered x asked column (Ok s) out read = answered x asked s out read
+ShowsDigits refused answered x asked column (Err e) out read = (out ≡ refused x.0 (Some x.1) (bad_hex column)) × (read ≡ false)
 
 -- the output for a line, with its number, and whether the line has no error
 pub data ShowsLine (refused : Refused) (answered : Answered) (x : ℕ × List ℕ) (out : List ℕ) (read : Bool) : Type 0 where
   TooLong : most_text < length x.1 → out ≡ refused x.0 None (codes "input too long") → read ≡ false → ShowsLine refused answered x out read
   PassedOver : length x.1 ≤ most_text → IsPassedOver x.1 → out ≡ [] → read ≡ true → ShowsLine refused answered x out read
-  Known : length x.1 ≤ most_text → ¬ IsPassedOver x.1 → (asked : Asked) (rest : List ℕ) → Asks x.1 asked rest → ShowsDigits refused answered x asked (decode_of (digits_of rest)) out read → ShowsLine refused answered x out read
+  Known : length x.1 ≤ most_text → ¬ IsPassedOver x.1 → (asked : Asked) (rest : List ℕ) → Asks x.1 asked rest → ShowsDigits refused answered x asked (bad_column x.1 rest) (decode_of (digits_of (without_marks rest))) out read → ShowsLine refused answered x out read
   Unknown : length x.1 ≤ most_text → ¬ IsPassedOver x.1 → AsksNothing x.1 → out ≡ refused x.0 (Some x.1) (codes "no such family") → read ≡ false → ShowsLine refused answered x out read
 
 -- what is written for a line with this number, from 1: its output, and whether the line has no error

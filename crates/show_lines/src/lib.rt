@@ -9,6 +9,7 @@ mod asking;
 mod bare;
 mod by_options;
 mod debug;
+mod digits;
 mod held;
 pub mod laws;
 mod lists;

@@ -308,7 +308,7 @@ def difference(given, printed):
 
 def wrong_status(status, printed):
     """What is wrong with the status of a program that has printed these lines, or nothing."""
-    wanted = 2 if {*printed} & {*reader.OTHERS.values()} else 1 if any(map(ERROR.match, printed)) else 0
+    wanted = 2 if {*printed} & {*reader.OTHERS.values(), reader.MESSAGES} else 1 if any(map(ERROR.match, printed)) else 0
     return "" if status == wanted else f"the status is {status}, expected {wanted}"
 
 

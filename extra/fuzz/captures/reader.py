@@ -19,6 +19,8 @@ OTHERS = {bytes.fromhex(it): f"{name} data: decompress it first, as in {cat} FIL
 OTHERS |= {b"BZh%d" % it: "bzip2 data: decompress it first, as in bzcat FILE | nlshow" for it in range(1, 10)}
 OTHERS |= {bytes.fromhex(it): "modified pcap file: convert it first, as in editcap -F pcapng FILE - | nlshow" for it in ("34cdb2a1", "a1b2cd34")}
 OTHERS |= {b"snoop\0\0\0": "snoop file: convert it first, as in editcap -F pcapng FILE - | nlshow"}
+# What is said of messages, one after another, and the lengths and types of the first.
+MESSAGES, LENGTHS, KINDS = "raw netlink messages: read them with --raw, as in nlshow --raw FILE", range(16, 65537), {1, 2, 3, 4, *range(15, 124)}
 SECTION, INTERFACE, PACKET = 0x0A0D0D0A, 1, 6
 LEAST = {SECTION: ("section", 28), INTERFACE: ("interface", 20), PACKET: ("packet", 32)}
 ORDERS = {"4d3c2b1a": "<", "1a2b3c4d": ">"}
@@ -261,10 +263,17 @@ def read_raw(data, starts, lines):
 FORMS = {"pcap": read_pcap, "pcapng": read_pcapng, "raw": read_raw}
 
 
+def others_of(data):
+    """What is said of an input in another format, in a list, or an empty one."""
+    length, kind = struct.unpack_from("<IH", data.ljust(6, b"\0"))
+    found = [text for magic, text in OTHERS.items() if data.startswith(magic)]
+    return found or [MESSAGES] * (len(data) >= 6 and length in LENGTHS and kind in KINDS)
+
+
 def form_of(data, is_raw=False):
     """The form of an input: one of FORMS, other, or lines."""
     first = data[:4].hex()
-    form = "pcap" if first in PCAP else "pcapng" if first == "0a0d0d0a" else "other" if data.startswith((*OTHERS,)) else "lines"
+    form = "pcap" if first in PCAP else "pcapng" if first == "0a0d0d0a" else "other" if others_of(data) else "lines"
     return "raw" if is_raw else form
 
 
@@ -273,7 +282,7 @@ def read(data, is_raw=False):
     """The Reading of an input. That of lines has no lines."""
     starts, lines, error, form = [], [], "", form_of(data, is_raw)
     if form == "other":
-        lines = [text for magic, text in OTHERS.items() if data.startswith(magic)]
+        lines = others_of(data)
     if form in FORMS:
         try:
             FORMS[form](data, starts, lines)

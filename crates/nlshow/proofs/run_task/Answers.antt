@@ -1,7 +1,8 @@
 use Rattle.std.proofs.Common.{rules, ℕ, Bool, ◌≡◌, ◌<◌, ◌+◌, ◌++◌, ◌∷◌, [], true, false, true≢false, List, Option, None, map, take, drop, string_bytes, refl, sym, subst, ◌∙◌, arith}
 use Rattle.std.proofs.lemmas.Grind.{common_steps}
 use Rattle.std.specs.Io.Buffered.{writer_buffer, writer_inner}
-use Rattle.program.specs.UntilEnd.{left_of}
+use Rattle.program.specs.UnitMeaning.{told}
+use Rattle.program.specs.UntilEnd.{errno_of, left_of}
 use Rattle.program.specs.Watched.{given, has_failed, passed_on}
 use Rattle.nlshow.specs.Runs.{NoFile, OneMore, IsSource, RunsFile, RunsFiles, RunsOn, goes_on}
 use Rattle.nlshow.proofs.Greatest.{greatest, one_name, all_names, no_others}
@@ -11,16 +12,18 @@ use Rattle.nlshow.proofs.run_task.Goals as goal
 pub returns-then-is_empty-clause-input : goal.returns-then-is_empty-clause-input
 returns-then-is_empty-clause-input g c none =
     let remaining = g.R.Reader.Read.remaining in
-    let P : Option (List ℕ) → Type 0 = λ left. RunsOn c.args.task.now.output None c.args.task.now.raw left (left_of remaining c.run_on.new.reader) (given g.W.Write.contents c.args.writer.now) (passed_on g.W.Write.contents c.run_on.new.writer)
-    (has_failed (writer_inner c.run_on.new.writer)) c.run_on.result in
+    let P : Option (List ℕ) → Type 0 = λ left. RunsOn c.args.task.now.output None c.args.task.now.raw left (left_of remaining c.run_told.new.reader) (given g.W.Write.contents c.args.writer.now) (passed_on g.W.Write.contents c.run_told.new.writer)
+    (has_failed (writer_inner c.run_told.new.writer)) c.run_told.result in
     record {
       reader = c.reader.result;
       left_after = _;
-      ran = subst P (fresh remaining c.new.result c.reader.result c.new.ensures.inner c.new.ensures.open) c.run_on.ensures.run;
+      errno = errno_of c.run_told.new.reader;
+      ran = subst P (fresh remaining c.new.result c.reader.result c.new.ensures.inner c.new.ensures.open) c.run_told.ensures.run;
+      tells = c.run_told.ensures.told;
     }
 
 pub loop-name-init : goal.loop-name-init
-loop-name-init g c = (NoFile [] _ false 0 true refl refl refl refl, λ some. absurd (omega (arith, some)))
+loop-name-init g c = (NoFile [] _ false 0 true _ refl refl refl refl refl, λ some. absurd (omega (arith, some)))
 
 pub loop-name-preserved : goal.loop-name-preserved
 loop-name-preserved g c =
@@ -35,11 +38,13 @@ loop-name-preserved g c =
     let well : failed ≡ false = unfailed c.run_file-status.result failed on in
     let empty : writer_buffer writer ≡ [] = c.run_file-status.ensures.unfailed well in
     let contents = g.W.Write.contents in
+    let told_between = told g.E.Write.contents c.loop-name.errors in
+    let told_after = told g.E.Write.contents c.run_file-status.new.errors in
     let source = IsSource g.R.Reader.Read.remaining g.R.File.Read.remaining in
-    let P : Option (List ℕ) → Type 0 = λ held. RunsFile source c.args.task.now.output c.args.task.now.raw c.as_str.result.now (given contents c.loop-name.writer) held false c.run_file-status.result in
-    let Q : Bool → Type 0 = λ b. RunsFile source c.args.task.now.output c.args.task.now.raw c.as_str.result.now (given contents c.loop-name.writer) (passed_on contents writer) b c.run_file-status.result in
+    let P : Option (List ℕ) → Type 0 = λ held. RunsFile source c.args.task.now.output c.args.task.now.raw c.as_str.result.now (given contents c.loop-name.writer) held false c.run_file-status.result told_between told_after in
+    let Q : Bool → Type 0 = λ b. RunsFile source c.args.task.now.output c.args.task.now.raw c.as_str.result.now (given contents c.loop-name.writer) (passed_on contents writer) b c.run_file-status.result told_between told_after in
     let ran = subst P (sym (nothing_kept (passed_on contents writer) (writer_buffer writer) empty)) (subst Q well c.run_file-status.ensures.run) in (
-      OneMore _ _ false _ true (map string_bytes (take i items)) c.as_str.result.now (given contents c.loop-name.writer) c.loop-name.greatest c.run_file-status.result c.loop-name.invariant.0
+      OneMore _ _ false _ true told_after (map string_bytes (take i items)) c.as_str.result.now (given contents c.loop-name.writer) c.loop-name.greatest c.run_file-status.result told_between c.loop-name.invariant.0
           (one_name string_bytes (take i items) (take (i + 1) items) name _ taken text) ran (c.max-greatest.ensures ∙ greatest c.loop-name.greatest c.run_file-status.result) (subst (λ b. true ≡ goes_on c.run_file-status.result b) well (sym on)),
       λ some. (empty, well),
     )
@@ -56,7 +61,7 @@ returns-then-not-goes_on-clause-files g c some =
       rest = map string_bytes (drop (i + 1) items);
       more = false;
       all = all_names string_bytes (i + 1) items;
-      ran = OneMore _ _ _ _ false (map string_bytes (take i items)) c.as_str.result.now (given g.W.Write.contents c.loop-name.writer) c.loop-name.greatest c.run_file-status.result c.loop-name.invariant.0
+      ran = OneMore _ _ _ _ false (told g.E.Write.contents c.run_file-status.new.errors) (map string_bytes (take i items)) c.as_str.result.now (given g.W.Write.contents c.loop-name.writer) c.loop-name.greatest c.run_file-status.result (told g.E.Write.contents c.loop-name.errors) c.loop-name.invariant.0
           (one_name string_bytes (take i items) (take (i + 1) items) name _ taken text) c.run_file-status.ensures.run (c.max-greatest.ensures ∙ greatest c.loop-name.greatest c.run_file-status.result)
           (sym c.if-not-goes_on.true ∙ c.goes_on.ensures);
       ended = λ e. absurd (true≢false (sym e));
@@ -70,8 +75,10 @@ returns-after-loop-name-clause-files g c some =
     let writer = c.loop-name.writer in
     let kept = c.loop-name.invariant.1 (search (arith, rules)) in
     let source = IsSource g.R.Reader.Read.remaining g.R.File.Read.remaining in
-    let P : Option (List ℕ) → Type 0 = λ held. RunsFiles source c.args.task.now.output c.args.task.now.raw (given contents c.args.writer.now) (map string_bytes (take i items)) held false c.loop-name.greatest true in
-    let Q : Bool → Type 0 = λ b. RunsFiles source c.args.task.now.output c.args.task.now.raw (given contents c.args.writer.now) (map string_bytes (take i items)) (passed_on contents writer) b c.loop-name.greatest true in
+    let told_before = told g.E.Write.contents c.args.errors.now in
+    let told_after = told g.E.Write.contents c.loop-name.errors in
+    let P : Option (List ℕ) → Type 0 = λ held. RunsFiles source c.args.task.now.output c.args.task.now.raw (given contents c.args.writer.now) told_before (map string_bytes (take i items)) held false c.loop-name.greatest true told_after in
+    let Q : Bool → Type 0 = λ b. RunsFiles source c.args.task.now.output c.args.task.now.raw (given contents c.args.writer.now) told_before (map string_bytes (take i items)) (passed_on contents writer) b c.loop-name.greatest true told_after in
     record {
       done = map string_bytes (take i items);
       rest = [];

@@ -2,6 +2,7 @@
 
 use super::{Narrow, PLAIN, buffered, fails_anywhere, stops_anywhere};
 use crate::run_task;
+use program::Watched;
 use show_lines::Task;
 
 /// Parts of a pcap file, each with the output for it.
@@ -105,6 +106,10 @@ fn captures_whose_writer_fails_anywhere(rt: HostRuntime) {
 /// The output for two files that do not exist.
 const MISSING: &str = "file \"\"\ncannot open\nfile \"\"\ncannot open\n";
 
+/// What standard error is told of them.
+const TOLD: &str =
+    "nlshow: \"\": No such file or directory\nnlshow: \"\": No such file or directory\n";
+
 /// Makes the writer fail at each offset of the output for two files. No write follows the failure.
 #[test]
 fn files_whose_writer_fails_anywhere(rt: HostRuntime) {
@@ -125,12 +130,17 @@ fn files_whose_writer_fails_anywhere(rt: HostRuntime) {
             failures: 0,
         };
         let mut writer = buffered(&rt, alloc, narrow);
-        let status = run_task(&rt, &task, &mut writer);
+        let mut errors = Watched::new(Vec::new(alloc));
+        let status = run_task(&rt, &task, &mut writer, &mut errors);
+        let told = errors.get_ref().as_slice();
         let watched = writer.get_ref();
         let narrow = watched.get_ref();
         let failures = if room < MISSING.len() { 1 } else { 0 };
         assert!(&rt; status == 5 && narrow.failures == failures);
         assert!(&rt; watched.has_failed() == (failures == 1));
         assert!(&rt; narrow.taken.len() == room && MISSING.as_bytes().starts_with(&narrow.taken));
+        // The second file is not opened, if the writer failed for the first.
+        let count = if room < MISSING.len() / 2 { 1 } else { 2 };
+        assert!(&rt; told == &TOLD.as_bytes()[..count * TOLD.len() / 2]);
     }
 }

@@ -19,7 +19,7 @@ const LINES: [(&[u8], &str); 7] = [
     ),
     (
         b"dsa 0\n",
-        r#"{"line":4,"error":{"at":null,"text":"bad hex"},"ok":false}
+        r#"{"line":4,"error":{"at":null,"text":"bad hex at column 5"},"ok":false}
 "#,
     ),
     (
