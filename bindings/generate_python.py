@@ -53,6 +53,7 @@ def text(model):
     enums = [
         ("Place", "The part of an attribute that is malformed.", model.places),
         ("Cause", "What is wrong with it.", model.causes),
+        ("Unit", "What a number counts.", {name.upper(): number for name, number in model.units.items()}),
     ]
     arrays = [it for of in model.sets for it in of.attributes if it.places]
     public = ["Family", "Code", *(name for name, _, _ in enums), *(it.name for it in model.types), *(it.places.name for it in arrays), *keys]
@@ -132,6 +133,8 @@ def row(it, model, indent):
     words = f'Row("{it.name}", {it.kind}, {model.forms[it.form]}'
     if it.type:
         words += f", {it.type.name}"
+    if it.unit != "none":
+        words += f", unit=Unit.{it.unit.upper()}"
     if it.optional:
         words += ", optional=True"
     if it.item:

@@ -45,6 +45,10 @@ pub(crate) const VERSION: u32 = {version:#08x};
 pub(crate) mod form {{
 {forms}}}
 
+/// The numbers of `enum nlroute_unit`.
+pub(crate) mod unit {{
+{units}}}
+
 /// The numbers of `enum nlroute_refusal`.
 pub(crate) mod refusal {{
 {refusals}}}
@@ -99,6 +103,7 @@ def top(model):
         items="".join(f"    pub const {name}: u16 = {kind};\n" for name, kind in items.items()),
         version=model.version,
         forms="".join(f"    pub const {it.upper()}: u8 = {number};\n" for it, number in model.forms.items() if number),
+        units="".join(f"    pub const {it.upper()}: u32 = {number};\n" for it, number in model.units.items() if number),
         refusals="".join(f"    pub const {it.name}: isize = {it.code};\n" for it in model.refusals),
         texts="".join(f"        refusal::{it.name} => \"{it.text}\",\n" for it in model.refusals),
     )

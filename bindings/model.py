@@ -2,7 +2,7 @@
 
 `ask` makes it. Constants of the C API are read from its header; the rest is asked of the library:
 
-- nlroute_read_row() has the form of an attribute type, and the width of its numbers;
+- nlroute_read_row() has the form of an attribute type, the width of its numbers, and what they count;
 - names are those of nlroute_kind_name(), nlroute_number_name() and nlroute_flag_name(), and nlroute_kind_of(),
   nlroute_kind_of_in() and nlroute_number_of() have to find what has them;
 - nlroute_read_field() has the fields of structs that are bytes in C. A payload in which one byte is not zero tells their order.
@@ -112,6 +112,7 @@ class Attribute:
     form: str  # that of enum nlroute_form, in small letters: named
     bits: int | None = None  # width of the number, if the form has one
     type: Type | None = None  # for the forms named, flags, masked and vlan_info
+    unit: str = "none"  # what the numbers count: that of enum nlroute_unit, in small letters
     example: str | None = None  # for numbers with a unit: how 100 is printed, such as `100 (1.00 s)`
     elements: tuple["Attribute", ...] = ()
     item: "Attribute | None" = None
@@ -146,6 +147,7 @@ class Model:
 
     version: int
     forms: dict[str, int]
+    units: dict[str, int]
     refusals: tuple[Refusal, ...]
     places: dict[str, int]
     causes: dict[str, int]
@@ -194,15 +196,17 @@ def ask(library):
     if library.version() != version:
         raise SystemExit(f"generate.py: the library has the version {library.version():#08x}, nlroute.h {version:#08x}")
     forms = {name.lower(): number for name, number in enum_of(header, "nlroute_form", "NLROUTE_FORM_").items()}
+    units = {name.lower(): number for name, number in enum_of(header, "nlroute_unit", "NLROUTE_UNIT_").items()}
     types, structs = {}, {}
     families = enum_of(header, "nlroute_family").items()
     words = dict(re.findall(r"^    NLROUTE_(\w+) = \d+,? /\* (.*) \*/$", header, re.MULTILINE))
     rows = variants()
-    askers = {name: Asker(library, family, forms, types, structs, rows) for name, family in families}
+    askers = {name: Asker(library, family, (forms, units), types, structs, rows) for name, family in families}
     sets = tuple(asker.set(name.lower(), words[name]) for name, asker in askers.items())
     return Model(
         version=version,
         forms=forms,
+        units=units,
         refusals=refusals_of(library, header),
         places=enum_of(header, "nlroute_place"),
         causes=enum_of(header, "nlroute_cause"),
@@ -225,8 +229,8 @@ def variants():
 class Asker:
     """Asks for the attributes of one set. `types` has the enums and flags of all sets so far, `structs` the structs."""
 
-    def __init__(self, library, family, forms, types, structs, names):
-        self.library, self.family, self.forms = library, family, forms
+    def __init__(self, library, family, numbers, types, structs, names):
+        self.library, self.family, (self.forms, self.units) = library, family, numbers
         self.types, self.structs, self.variants = types, structs, names
 
     def set(self, name, words):
@@ -267,6 +271,7 @@ class Asker:
             bits=bits,
             type=self.type(name, form, bits, names),
             variant=self.variants.get(name, ""),
+            unit=next(name for name, number in self.units.items() if number == row.unit),
             example=self.example(value, form),
             struct=self.struct(name, value) if form == "bytes" else None,
             # (the number of a value without a payload is 1; of other booleans, the length is not used)

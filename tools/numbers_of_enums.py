@@ -1,10 +1,10 @@
-"""Writes the text of crates/nlroute_ffi/include/nlroute_numbers.h, for tools/kinds.py: the numbers of enums and the bits of flags
-that have names, each as a constant of C.
+"""Writes the text of crates/nlroute_ffi/include/nlroute_numbers.h, for tools/kinds.py: the numbers of enums and the bits of
+flags that have names, each as a constant of C.
 
-A row of a table in specs/ names the list of its names, as in `row 1 "IFLA_BOND_MODE" (u8_enum mode_names)`. The list in src/ that
-the prover compares with it has the kernel's constants too: `BOND_MODE_8023AD = 4, Ieee8023Ad, "802.3ad"`, or in a comment the
-prefix that all of them have. If the kernel has no constants, they are made of the library's type and the name. No constant may
-be one of another list or header: `repeated` finds those that are.
+A row of a table in specs/ names the list of its names, as in `row 1 "IFLA_BOND_MODE" (u8_enum mode_names)`. The list in src/
+that the prover compares with it has the kernel's constants too: `BOND_MODE_8023AD = 4, Ieee8023Ad, "802.3ad"`, or in a comment
+the prefix that all of them have. If the kernel has no constants, they are made of the library's type and the name. No constant
+may be one of another list or header: `repeated` finds those that are.
 """
 import re
 import textwrap
@@ -20,6 +20,8 @@ NAMES = re.compile(r"names!\[(.*?)\]", re.S)
 NAME = re.compile(r'\b(\w+) "(.*?)"|Name \{\s+number: (\w+)(?: as u64)?,\s+text: "(.*?)",\s+\}')
 TABLE = re.compile(r"^(\w+) =", re.M)
 CONSTANT = re.compile(r"^const (\w+): u\d+ = (\w+);", re.M)
+# The words of rows that name such a list.
+NAMED = re.compile(r"_enum$|_coded$|flags|^vlan_protocol$")
 # What begins the constants of flags that the kernel numbers: these are places of bits.
 PLACES = "BR_BOOLOPT_"
 DEFINED = re.compile(r"\b(NLROUTE_\w+) = |^#define (NLROUTE_\w+)(?= )", re.M)
@@ -101,12 +103,16 @@ class Sources:
         return self.lists[crate]
 
     def named(self, table, shape):
-        """The list that a row of a table names, or None. Places of arrays are no numbers of values."""
+        """The list that a row of a table names, or None. Places of arrays are no numbers of values. ValueError if the list is
+        not found."""
         word, *more = shape.split()
         if word.endswith("_counters"):
             return None
         crate, words = ("link_base", ["vlan_protocols"]) if word == "vlan_protocol" else (self.crates[table], more)
-        return next((self.of(crate)[it] for it in words if it in self.of(crate)), None)
+        found = next((self.of(crate)[it] for it in words if it in self.of(crate)), None)
+        if found is None and NAMED.search(word):
+            raise ValueError(f"{table}: no list in src/ is that of `{shape}`")
+        return found
 
 
 def blocks(tree, tables):

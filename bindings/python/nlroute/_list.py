@@ -5,7 +5,7 @@ from collections.abc import Iterable, Iterator
 from typing import Any, overload
 
 from . import _library, _plain, _read, _write
-from ._kinds import Family
+from ._kinds import Family, Unit
 from ._records import HEADER
 from ._tables import TABLES, Table
 from ._types import Attribute, Key, Mac, Name, T
@@ -151,6 +151,15 @@ class List:
         if not self._table.list_row:
             return _read.struct_fields(self.family, bytes(only), 0)
         return _read.struct_fields(self.family, bytes(List(self.family, [(self._table.title, only)])), 1)
+
+    def unit(self, key: Name) -> Unit:
+        """Returns what the numbers of an attribute count, whether the list has it or not.
+
+        >>> from nlroute import *
+        >>> List(Family.BOND).unit(IFLA_BOND_MIIMON)
+        <Unit.MILLISECONDS: 2>
+        """
+        return Unit(self._table.row(str(key)).unit)
 
     @overload
     def __setitem__(self, key: Key[T], value: T) -> None: ...

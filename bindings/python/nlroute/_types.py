@@ -281,6 +281,7 @@ class Row(NamedTuple):
     kind: int
     form: int
     type: type[Named] | type[Flags] | None = None
+    unit: int = 0  # a Unit: what its number counts, or each number of its array
     elements: tuple[Row, ...] = ()  # of a nested list
     item: Row | None = None  # of a list of addresses, numbers or mappings
     optional: bool = False  # a boolean that may have no payload: None without

@@ -18,6 +18,7 @@ Values = Union[Mapping[Any, Any], Iterable[tuple[Name, Any]]]  # (the keys of a 
 # number, second, length, octets and flags of a record, and the bytes that it refers to.
 Fields = tuple[int, int, int, bytes, int, bytes]
 NAME_ROOM = 16  # of struct can_bittiming_const
+NLA_F_NESTED = 0x8000
 
 
 def pairs(values: Values, title: str = "") -> Iterator[tuple[Any, Any]]:
@@ -72,7 +73,7 @@ class Writer:
         """Adds the attribute that has this index in its list. Raises as add_all() does, and WriteError."""
         name, value = attribute
         row = self.table.row(name)
-        if row.form in (Form.HELD, Form.PEER, Form.LIST):
+        if row.form in (Form.HELD, Form.PEER, Form.LIST, Form.UNKNOWN):
             value = self.with_bytes(index, row, value)
         if row.form != Form.LIST:
             self.put(index, row, (row.kind, 0, 0), value)
@@ -108,11 +109,11 @@ class Writer:
         """Returns the value of an attribute, with bytes for each list of another set that is a dict or a list."""
         if row.form == Form.PEER:
             return self.peer(index, row.name, value) if is_list(value) else value
-        if row.form == Form.HELD:
+        if row.form in (Form.HELD, Form.UNKNOWN):
             if not is_list(value):
                 return value
-            (family,) = self.families(index, Attribute(row.name, b""), [0])
-            return self.held(index, row.name, value, family)
+            (family,) = self.families(index, Attribute(row.name, held_in(row, b"")), [0])
+            return held_in(row, self.held(index, row.name, value, family))
         below = self.table.below.get(row.kind)
         if not below or not below.holders or not is_list(value):
             return value
@@ -186,6 +187,12 @@ class Writer:
 def is_list(value: Any) -> bool:
     """Returns whether a value is a dict, a List or a list of pairs, in place of the bytes of a list."""
     return isinstance(value, (Mapping, list)) or hasattr(value, "_table")
+
+
+def held_in(row: Row, data: bytes) -> bytes | Unknown:
+    """Returns the value of an attribute that holds a list of another set: these bytes. One without a row may be an
+    IFLA_PROTINFO, `type 12`, which is a list in a message of AF_BRIDGE if it has NLA_F_NESTED."""
+    return Unknown(data, NLA_F_NESTED) if row.form == Form.UNKNOWN else data
 
 
 class Unfit(Exception):

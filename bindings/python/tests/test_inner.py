@@ -55,6 +55,21 @@ class Inner(unittest.TestCase):
         request = Request.bridge(3).set("IFLA_AF_SPEC", {"IFLA_BRIDGE_VLAN_INFO": VlanInfo(10)})
         self.assertEqual(bytes(request)[32:], attribute(26, attribute(2, struct.pack("=HH", 0, 10))))
 
+    def test_a_protinfo(self):
+        # IFLA_PROTINFO (12) with NLA_F_NESTED, in a message of AF_BRIDGE: IFLA_BRPORT_COST (3)
+        port = {"IFLA_BRPORT_COST": 44}
+        expected = attribute(12 | 0x8000, attribute(3, struct.pack("=I", 44)))
+        for value in (port, List(Family.BRIDGE_PORT, port), [("IFLA_BRPORT_COST", 44)]):
+            made = bytes(Request.bridge(3).set("type 12", value))
+            self.assertEqual(made[32:], expected)
+        (message,) = messages(made)
+        self.assertEqual(message.to_dict()["attributes"], {"type 12": port})
+        # in other messages, no set reads it
+        for values in (Request.change(3).set("type 12", port), List(Family.LINK, {"type 12": port}), List(Family.BOND, {"type 99": {}})):
+            with self.assertRaises(WriteError) as caught:
+                bytes(values)
+            self.assertEqual(caught.exception.code, Code.NO_SET)
+
     def test_requests(self):
         request = Request(16, 0x604, 0).set("IFLA_IFNAME", "bond0").set("IFLA_LINKINFO", {"IFLA_INFO_KIND": "bond", "IFLA_INFO_DATA": BOND})
         self.assertEqual(bytes(request)[44:], INFO)

@@ -12,8 +12,12 @@ from nlroute import _kinds, _tables
 TOP = os.path.dirname(os.path.dirname(os.path.dirname(os.path.dirname(os.path.realpath(__file__)))))
 GROUP = re.compile(r"/\* (?:Attributes of NLROUTE_|Elements of )([^*]*)\. \*/\nenum \{\n([^}]*)\n\};")
 PLACES = re.compile(r"/\* Places of the array (\w+)\. \*/\nenum \{\n([^}]*)\n\};")
-PLACE = re.compile(r"NLROUTE_(?:IPV[46]_CONF_)?(\w+) = (\d+)")
-TYPE = re.compile(r"NLROUTE_(\w+) = (\d+),? /\* (.*?)(?:, .*)? \*/")
+PLACE = re.compile(r"NLROUTE_(?:(?:IPV4_CONF|IPV6_CONF|IPV6_STATS|ICMP6_STATS)_)?(\w+) = (\d+)")
+TYPE = re.compile(r"NLROUTE_(\w+) = (\d+),? /\* (.*?)((?:, .*)?) \*/")
+UNITS = {
+    "1/100 s": Unit.CLOCK_TICKS, "ms": Unit.MILLISECONDS, "s": Unit.SECONDS, "ns": Unit.NANOSECONDS, "bit/s": Unit.BITS_PER_SECOND,
+    "ohms": Unit.OHMS, "Hz": Unit.HERTZ, "interface index": Unit.INTERFACE_INDEX,
+}  # fmt: skip
 LIST = re.compile(r"^> ([a-z_]+) ((?:[0-9a-f]| )*)$")
 # Bits and numbers of the kernel's headers: if_bonding.h, if_vlan.h, can/netlink.h, if_bridge.h, bond_3ad.h.
 KERNEL = [
@@ -116,14 +120,32 @@ class Names(unittest.TestCase):
         seen = set()
         for titles, body in groups:
             for title in re.split(r" and |, ", titles):
-                for name, number, form in TYPE.findall(body):
+                for name, number, form, more in TYPE.findall(body):
                     row = rows[title, name]
                     self.assertEqual((row.kind, form_of(row)), (int(number), form), name)
+                    said = [UNITS[it] for it in more.split(", ") if it in UNITS] or [Unit.NONE, Unit.MASK]
+                    self.assertIn(row.unit, said, name)
                     self.assertEqual(getattr(nlroute, name), name)
                     seen.add((title, name))
         # IFLA_PROTINFO has a type of bridge ports, and IFLA_PROP_LIST one of links, which the header has once
         unseen = {title for title, _ in set(rows) - seen}
         self.assertEqual(unseen, {"PROTO_BRIDGE", "IFLA_PROP_LIST", "IFLA_MACVLAN_MACADDR_DATA"})
+
+    def test_units(self):
+        # IFLA_CAN_TERMINATION_CONST is an array of numbers; IFLA_GENEVE_TOS has no unit, but is shown in hex
+        rows = [
+            (Family.BRIDGE, "IFLA_BR_AGEING_TIME", Unit.CLOCK_TICKS),
+            (Family.BOND, "IFLA_BOND_PRIMARY", Unit.INTERFACE_INDEX),
+            (Family.CAN, "IFLA_CAN_TERMINATION_CONST", Unit.OHMS),
+            (Family.GENEVE, "IFLA_GENEVE_TOS", Unit.MASK),
+            (Family.VLAN, "IFLA_VLAN_ID", Unit.NONE),
+        ]
+        for family, name, unit in rows:
+            self.assertIs(List(family).unit(name), unit)
+        state = List.within(Family.BRIDGE, "IFLA_BR_MCAST_QUERIER_STATE")
+        self.assertIs(state.unit("BRIDGE_QUERIER_IP_OTHER_TIMER"), Unit.CLOCK_TICKS)
+        self.assertRaises(KeyError, state.unit, "IFLA_BR_AGEING_TIME")
+        self.assertIs(List(Family.VLAN).unit("type 99"), Unit.NONE)
 
     def test_places(self):
         groups = dict(PLACES.findall(header()))

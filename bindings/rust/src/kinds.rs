@@ -32,6 +32,19 @@ pub(crate) mod form {
     pub const PEER: u8 = 22;
 }
 
+/// The numbers of `enum nlroute_unit`.
+pub(crate) mod unit {
+    pub const CLOCK_TICKS: u32 = 1;
+    pub const MILLISECONDS: u32 = 2;
+    pub const SECONDS: u32 = 3;
+    pub const BITS_PER_SECOND: u32 = 4;
+    pub const OHMS: u32 = 5;
+    pub const NANOSECONDS: u32 = 6;
+    pub const HERTZ: u32 = 7;
+    pub const INTERFACE_INDEX: u32 = 8;
+    pub const MASK: u32 = 9;
+}
+
 /// The numbers of `enum nlroute_refusal`.
 pub(crate) mod refusal {
     pub const HAS_FAULT: isize = -1;

@@ -109,6 +109,7 @@ mod sys;
 #[cfg(test)]
 mod tests;
 mod types;
+mod unit;
 mod value;
 
 pub use attributes::*;
@@ -123,6 +124,7 @@ pub use scope::{Any, Key, Scope, Set, Typed};
 pub use types::{
     BerrCounter, BridgeId, CanBitTiming, CanBitTimingConst, Held, Mac, Masked, Peer, QosMapping, Text, VlanInfo,
 };
+pub use unit::Unit;
 pub use value::{Content, Iter, TypedIter, Value};
 
 /// Returns the mark of the library that is linked: version, `proved` or `unproved`, commit and toolchain.

@@ -5,8 +5,8 @@
 //! - *Inputs.* A slice or a reference is aligned, initialized, not null even if it is empty, and at most `isize::MAX`
 //!   bytes long. The borrow keeps other threads from writing to it during the call.
 //! - *Outputs.* An output is a local variable or the spare capacity of a new `Vec`, so nothing else refers to it.
-//! - *Values.* The fields of [`Raw`], [`RawHead`], [`RawField`], [`RawFault`], [`RawMessage`] and [`RawRange`] are integers, so
-//!   any bytes are a value. The library checks form, offset and length of each value that it is passed.
+//! - *Values.* The fields of [`Raw`], [`RawHead`], [`RawField`], [`RawFault`], [`RawMessage`], [`RawRange`] and [`RawRow`] are
+//!   integers, so any bytes are a value. The library checks form, offset and length of each value that it is passed.
 //! - *Lifetimes.* The library keeps no pointer.
 
 use crate::kinds::refusal;
@@ -101,6 +101,17 @@ pub struct RawField {
     pub octets: [u8; 16],
 }
 
+/// `struct nlroute_row`.
+#[repr(C)]
+#[derive(Clone, Copy, Debug, Default)]
+pub struct RawRow {
+    pub width: u32,
+    pub flags: u16,
+    pub form: u8,
+    pub is_list: u8,
+    pub unit: u32,
+}
+
 // The structs have no padding. Those of linux/can/netlink.h have u32 and char fields only.
 const _: () = assert!(size_of::<Raw>() == 48 && align_of::<Raw>() == align_of::<u64>());
 const _: () = assert!(size_of::<RawHead>() == 28 && align_of::<RawHead>() == align_of::<u32>());
@@ -108,6 +119,7 @@ const _: () = assert!(size_of::<RawFault>() == 40 && align_of::<RawFault>() == a
 const _: () = assert!(size_of::<RawMessage>() == 56 && align_of::<RawMessage>() == align_of::<u64>());
 const _: () = assert!(size_of::<RawRange>() == 16 && align_of::<RawRange>() == align_of::<u64>());
 const _: () = assert!(size_of::<RawField>() == 72 && align_of::<RawField>() == align_of::<u64>());
+const _: () = assert!(size_of::<RawRow>() == 12 && align_of::<RawRow>() == align_of::<u32>());
 const _: () = assert!(size_of::<CanBitTiming>() == 32 && size_of::<CanBitTimingConst>() == 48);
 
 extern "C" {
@@ -133,6 +145,7 @@ extern "C" {
         len: usize,
         field: *mut RawField,
     ) -> isize;
+    fn nlroute_read_row(family: u32, kind: u16, inner: u16, depth: u8, row: *mut RawRow) -> isize;
     fn nlroute_read_message(bytes: *const u8, len: usize, at: usize, message: *mut RawMessage) -> isize;
     fn nlroute_message_fault(bytes: *const u8, len: usize, at: usize, fault: *mut RawFault) -> isize;
     fn nlroute_held(list: *const u8, len: usize, address_family: u8, family: u32, held: *mut RawRange) -> isize;
@@ -300,6 +313,15 @@ pub fn field(family: u32, value: &Raw, index: usize, octets: &[u8]) -> Option<Ra
     // SAFETY: the inputs are a reference and a slice; the output is a local variable.
     let code = unsafe { nlroute_read_field(family, value, index, octets.as_ptr(), octets.len(), &mut field) };
     (code == 0).then_some(field)
+}
+
+/// Returns the number of `enum nlroute_unit` for the attribute type of a value; 0 if it has none.
+pub fn unit(family: u32, value: &Raw) -> u32 {
+    let mut row = RawRow::default();
+    // SAFETY: the output is a local variable, which is unchanged on an error.
+    let code = unsafe { nlroute_read_row(family, value.kind, value.inner, value.depth, &mut row) };
+    debug_assert_eq!(code, 0, "the value has a type");
+    row.unit
 }
 
 /// Returns the number of the attribute set of devices of a kind.

@@ -39,6 +39,21 @@ fn attributes_are_matched() {
 }
 
 #[test]
+fn keys_and_values_have_units() {
+    assert_eq!(IFLA_BR_AGEING_TIME.unit(), Unit::ClockTicks);
+    assert_eq!(IFLA_CAN_TERMINATION_CONST.unit(), Unit::Ohms);
+    assert_eq!(BRIDGE_QUERIER_IP_OTHER_TIMER.unit(), Unit::ClockTicks);
+    assert_eq!((IFLA_VLAN_ID.unit(), IFLA_GENEVE_TOS.unit()), (Unit::None, Unit::Mask));
+    let can = List::<Can>::new().with(IFLA_CAN_TERMINATION_CONST, vec![120]);
+    let value = can.iter().next().expect("there is one");
+    let element = value.elements().next().expect("there is one");
+    assert_eq!((value.unit(), element.unit()), (Unit::Ohms, Unit::Ohms));
+    let mut unknown = List::<Bond>::new();
+    unknown.push_unknown(99, 0, &[1]);
+    assert_eq!(unknown.iter().next().map(|value| value.unit()), Some(Unit::None));
+}
+
+#[test]
 fn a_value_of_another_set_or_list_is_other() {
     let vlan = List::<Vlan>::new().with(IFLA_VLAN_ID, 1);
     let value = vlan.iter().next().expect("there is one");

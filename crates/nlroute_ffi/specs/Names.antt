@@ -34,8 +34,8 @@ holds_indices (Some label) = has_indices label.form
 abbrev pub is_indexed : Family → Entry → Bool
 is_indexed family e = (e.depth == 1) && holds_indices (label_at (table_of family) e.kind)
 
--- what is known of the type of an attribute, or of an element; an address or a number has that of its list. Elements have none,
--- so there are no types at greater depths
+-- what is known of the type of an attribute, or of an element; an address or a number has that of its list. An element is no
+-- list: at greater depths there are no types
 abbrev pub label_for : Family → Entry → Option Label
 label_for family e =
     if (e.depth == 0) || is_indexed family e then label_at (table_of family) e.kind
