@@ -4,7 +4,7 @@ use Rattle.std.proofs.lemmas.Bool.{and_parts, cases_Bool, or_cases, or_parts}
 use Rattle.link_capture.specs.declared.form.Form.{Form}
 use Rattle.link_capture.specs.declared.other_format.OtherFormat.{OtherFormat}
 use Rattle.link_capture.specs.declared.other_format.OtherFormat.TheVariants.{Messages}
-use Rattle.link_capture.specs.Form.{magics, form_by, form_by, form_of, form_of_others, begins_magic, is_open, needs_more}
+use Rattle.link_capture.specs.Form.{magics, form_by_magic, form_by, form_of, form_of_others, begins_magic, is_open, needs_more}
 use Rattle.link_capture.specs.Messages.{is_stream, begins_stream}
 use Rattle.link_capture.proofs.Magics.{same_known}
 use Rattle.link_capture.proofs.Magics as magic
@@ -21,10 +21,10 @@ same_form (Ok (Some form)) s more h = refl
 same_form (Err format) s more h = refl
 
 -- what follows does not change the form that is known
-pub known : (s more : List ℕ) → needs_more s ≡ false → form_of (s ++ more) ≡ form_of s
-known s more h =
-    let parts = or_parts (begins_magic s) (is_open (form_by magics s) && begins_stream s) h in
-    ap (λ file. form_by file (s ++ more)) (same_known s more parts.0) ∙ same_form (form_by magics s) s more parts.1
+pub form_kept : (s more : List ℕ) → needs_more s ≡ false → form_of (s ++ more) ≡ form_of s
+form_kept s more h =
+    let parts = or_parts (begins_magic s) (is_open (form_by_magic magics s) && begins_stream s) h in
+    ap (λ file. form_by file (s ++ more)) (same_known s more parts.0) ∙ same_form (form_by_magic magics s) s more parts.1
 
 -- they tell nothing, and with what follows they may
 abbrev IsBegun : List ℕ → Type 0
@@ -48,16 +48,16 @@ is_known file is e = true≢false (ap is_open (sym e ∙ is))
 
 -- bytes that begin a magic number, or a stream, tell nothing yet
 pub begun : (s : List ℕ) → needs_more s ≡ true → IsBegun s
-begun s h = ⊎_elim by_magic by_stream (or_cases (begins_magic s) (is_open (form_by magics s) && begins_stream s) h)
+begun s h = ⊎_elim by_magic by_stream (or_cases (begins_magic s) (is_open (form_by_magic magics s) && begins_stream s) h)
   where
     by_magic : begins_magic s ≡ true → IsBegun s
     by_magic h =
-        let (none, lines, (more, known)) = magic.begun s h in (ap (λ file. form_by file s) none ∙ is_lines (is_stream s) lines, (more, known_form (form_by magics (s ++ more)) (s ++ more) known))
+        let (none, lines, (more, known)) = magic.begun s h in (ap (λ file. form_by file s) none ∙ is_lines (is_stream s) lines, (more, known_form (form_by_magic magics (s ++ more)) (s ++ more) known))
 
-    by_stream : (is_open (form_by magics s) && begins_stream s) ≡ true → IsBegun s
+    by_stream : (is_open (form_by_magic magics s) && begins_stream s) ≡ true → IsBegun s
     by_stream h =
-        let parts = and_parts (is_open (form_by magics s)) (begins_stream s) h in
-        let none = opened (form_by magics s) parts.0 in
+        let parts = and_parts (is_open (form_by_magic magics s)) (begins_stream s) h in
+        let none = opened (form_by_magic magics s) parts.0 in
         let (lines, (more, stream)) = begun_stream s parts.1 in
         ⊎_elim
         (λ begins. by_magic begins)

@@ -8,7 +8,7 @@ use Rattle.std.proofs.lemmas.Bool.Decides.{Decides-eqb}
 use Rattle.std.proofs.lemmas.Slice.Eq.{starts_is}
 use Rattle.link_capture.specs.declared.form.Form.{Form}
 use Rattle.link_capture.specs.declared.other_format.OtherFormat.{OtherFormat}
-use Rattle.link_capture.specs.Form.{magics, form_by, begins_magic}
+use Rattle.link_capture.specs.Form.{magics, form_by_magic, begins_magic}
 use Rattle.link_capture.specs.Messages.{is_stream}
 
 -- two tests whose first part is the same, and whose others are, if it holds
@@ -50,7 +50,7 @@ are_open (suc n) m = (is_none (found (take n m) magics) && not (is_stream (take 
 
 -- a magic number tells what a file is, and no proper prefix of it does
 abbrev is_closed : Magic → Bool
-is_closed m = tells_form (form_by magics m.0) && are_open (length m.0) m.0
+is_closed m = tells_form (form_by_magic magics m.0) && are_open (length m.0) m.0
 
 all_closed : list_all is_closed magics ≡ true
 all_closed = refl
@@ -93,23 +93,23 @@ module _ (s : List ℕ) where
       ap₂ (λ b o. cond b (Some m) o) (same_start m.0 s more (λ lt. subst (λ b. (b && starts_with nat_eq m.0 s) ≡ false) (lt-ltb (length s) (length m.0) lt) parts.0)) (same_found more ms parts.1)
 
   -- what follows does not change what is told
-  pub same_known : (more : List ℕ) → begins_magic s ≡ false → form_by magics (s ++ more) ≡ form_by magics s
+  pub same_known : (more : List ℕ) → begins_magic s ≡ false → form_by_magic magics (s ++ more) ≡ form_by_magic magics s
   same_known more h = ap (λ o. option_transpose (option_map (λ m. m.1) o)) (same_found more magics h)
 
   -- they tell nothing, and with what follows a magic number may
   abbrev pub IsOpen : Type 0
-  IsOpen = (form_by magics s ≡ Ok None) × (is_stream s ≡ false) × ((more : List ℕ) × (form_by magics (s ++ more) ≢ Ok None))
+  IsOpen = (form_by_magic magics s ≡ Ok None) × (is_stream s ≡ false) × ((more : List ℕ) × (form_by_magic magics (s ++ more) ≢ Ok None))
 
   opened : (m : Magic) → is_closed m ≡ true → begins m ≡ true → IsOpen
   opened m closed h =
-      let tests = and_parts (tells_form (form_by magics m.0)) (are_open (length m.0) m.0) closed in
+      let tests = and_parts (tells_form (form_by_magic magics m.0)) (are_open (length m.0) m.0) closed in
       let parts = and_parts (nat_lt (length s) (length m.0)) (starts_with nat_eq m.0 s) h in
       let whole : m.0 ≡ s ++ drop (length s) m.0 = (starts_is Decides-eqb m.0 s true (sym parts.1)).0 refl in
       let none = open_at (length m.0) (length s) m.0 tests.1 (ltb-true (length s) (length m.0) parts.0) in
       let front : take (length s) m.0 ≡ s = ap (take (length s)) whole ∙ take-append_seam s (drop (length s) m.0) in (
         ap (λ o. option_transpose (option_map (λ m. m.1) o)) (subst (λ l. found l magics ≡ None) front none.0),
         subst (λ l. is_stream l ≡ false) front none.1,
-        (drop (length s) m.0, is_known (form_by magics (s ++ drop (length s) m.0)) (subst (λ l. tells_form (form_by magics l) ≡ true) whole tests.0)),
+        (drop (length s) m.0, is_known (form_by_magic magics (s ++ drop (length s) m.0)) (subst (λ l. tells_form (form_by_magic magics l) ≡ true) whole tests.0)),
       )
 
   either_opened : (m : Magic) (b rest : Bool) → begins m ≡ b → is_closed m ≡ true → (b || rest) ≡ true → (rest ≡ true → IsOpen) → IsOpen

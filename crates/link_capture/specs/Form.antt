@@ -39,8 +39,8 @@ magics =
     (codes "snoop" ++ 0 ∷ 0 ∷ 0 ∷ [], Err Snoop) ∷ []
 
 -- what s tells by the first of these magic numbers with which it starts; no form, if it starts with none
-abbrev pub form_by : List (List ℕ × Result Form OtherFormat) → List ℕ → Result (Option Form) OtherFormat
-form_by magics s = option_transpose (option_map (λ m. m.1) (find (λ m. starts_with nat_eq s m.0) magics))
+abbrev pub form_by_magic : List (List ℕ × Result Form OtherFormat) → List ℕ → Result (Option Form) OtherFormat
+form_by_magic magics s = option_transpose (option_map (λ m. m.1) (find (λ m. starts_with nat_eq s m.0) magics))
 
 -- what a file is that starts with no magic number: a stream of messages, or lines, which have no form
 abbrev pub form_of_others : List ℕ → Result (Option Form) OtherFormat
@@ -49,21 +49,21 @@ form_of_others s = if is_stream s then Err Messages else Ok None
 -- what a file is, by what a magic number tells
 abbrev pub form_by : Result (Option Form) OtherFormat → List ℕ → Result (Option Form) OtherFormat
 form_by (Ok None) s = form_of_others s
-form_by meaning s = meaning
+form_by known s = known
 
 -- what a file is: a capture in this form, or in another format; no form, if it is lines
 abbrev pub form_of : List ℕ → Result (Option Form) OtherFormat
-form_of s = form_by (form_by magics s) s
+form_of s = form_by (form_by_magic magics s) s
 
 -- s is a proper prefix of a magic number
 abbrev pub begins_magic : List ℕ → Bool
 begins_magic s = list_any (λ m. nat_lt (length s) (length m.0) && starts_with nat_eq m.0 s) magics
 
--- nothing is told
+-- nothing is known
 abbrev pub is_open : Result (Option Form) OtherFormat → Bool
 is_open (Ok None) = true
-is_open meaning = false
+is_open known = false
 
 -- s is too short to tell what a file is
 abbrev pub needs_more : List ℕ → Bool
-needs_more s = begins_magic s || (is_open (form_by magics s) && begins_stream s)
+needs_more s = begins_magic s || (is_open (form_by_magic magics s) && begins_stream s)

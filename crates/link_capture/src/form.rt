@@ -2,7 +2,7 @@
 
 ghost use Rattle.std.specs.Prelude.{◌≡◌, ◌&&◌, length, map, nat_eq, nat_lt, option_map};
 ghost use Rattle.std.specs.List.{find, list_any, starts_with};
-ghost use Rattle.link_capture.specs.Form.{form_by, form_of, form_of_others, is_open, needs_more};
+ghost use Rattle.link_capture.specs.Form.{form_by_magic, form_of, form_of_others, is_open, needs_more};
 
 use crate::messages::{begins_stream, is_stream};
 use crate::order::Order;
@@ -91,9 +91,9 @@ impl Form {
     pub fn of_file(bytes: &[u8]) -> Result<Option<Form>, OtherFormat>
         ensures { result ≡ form_of bytes.now }
     {
-        match form_by(&MAGICS, bytes) {
+        match form_by_magic(&MAGICS, bytes) {
             Ok(None) => of_others(bytes),
-            meaning => meaning,
+            known => known,
         }
     }
 
@@ -102,7 +102,7 @@ impl Form {
     pub fn needs_more(bytes: &[u8]) -> bool
         ensures { result ≡ needs_more bytes.now }
     {
-        begin_one(&MAGICS, bytes) || is_open(form_by(&MAGICS, bytes)) && begins_stream(bytes)
+        begin_one(&MAGICS, bytes) || is_open(form_by_magic(&MAGICS, bytes)) && begins_stream(bytes)
     }
 }
 
@@ -117,15 +117,15 @@ fn of_others(bytes: &[u8]) -> Result<Option<Form>, OtherFormat>
 }
 
 /// Returns whether no magic number tells what a file is.
-fn is_open(meaning: Result<Option<Form>, OtherFormat>) -> bool
-    ensures { result ≡ is_open meaning }
+fn is_open(known: Result<Option<Form>, OtherFormat>) -> bool
+    ensures { result ≡ is_open known }
 {
-    matches!(meaning, Ok(None))
+    matches!(known, Ok(None))
 }
 
 /// Returns what `bytes` tell by these magic numbers, as `Form::of_file` does.
-fn form_by(magics: &[Magic], bytes: &[u8]) -> Result<Option<Form>, OtherFormat>
-    ensures { result ≡ form_by (map (λ m. (m.0.now, m.1)) magics.now) bytes.now }
+fn form_by_magic(magics: &[Magic], bytes: &[u8]) -> Result<Option<Form>, OtherFormat>
+    ensures { result ≡ form_by_magic (map (λ m. (m.0.now, m.1)) magics.now) bytes.now }
 {
     found_in(magics, bytes).transpose()
 }

@@ -1,4 +1,4 @@
-//! Prints the values of lists of link attributes, and of the lists in link messages, as text or as JSON.
+//! Prints netlink messages about links, and lists of their attributes, as text or as JSON.
 //!
 //! Usage: `nlshow [--format plain|debug|json] [--check] [--brief] [--raw] [FILE].. | --help | --version`. Each FILE, or standard input, is
 //! a capture (pcap or pcapng), or with `--raw` messages, one after another, or has lines. Each line is one of

@@ -14,7 +14,7 @@ const HELP: &str = with_names!(
     "\
 usage: nlshow [--format plain|debug|json] [--check] [--brief] [--raw] [FILE].. | --help | --version
 
-Prints the values of lists of link attributes, and of the lists in link messages.
+Prints netlink messages about links, and lists of their attributes.
 
   --format plain  print text for people (default)
   --format debug  print values as Rust's `Debug` does

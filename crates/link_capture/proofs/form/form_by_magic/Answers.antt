@@ -3,7 +3,7 @@ use Rattle.std.specs.List.{find, starts_with}
 use Rattle.std.specs.Option.{option_map, option_transpose}
 use Rattle.link_capture.specs.declared.form.Form.{Form}
 use Rattle.link_capture.specs.declared.other_format.OtherFormat.{OtherFormat}
-use Rattle.link_capture.proofs.form.form_by.Goals as goal
+use Rattle.link_capture.proofs.form.form_by_magic.Goals as goal
 
 -- a magic number in a constant, and in a definition
 abbrev Borrowed : Type 0
