@@ -3,7 +3,7 @@ use Rattle.std.specs.Prelude.{◌≡◌, ◌≢◌, ◌<◌, ◌≤◌, ℕ, ℤ
 use Rattle.std.specs.Io.KnownBytes.{Appends}
 use Rattle.link_show.specs.Quoted.{quoted}
 use Rattle.program.specs.Printing.{PrintsOrFails, no_memory_line, read_fault_line}
-use Rattle.program.specs.UnitMeaning.{UnitMeaning, Tells}
+use Rattle.program.specs.Told.{Told, Tells}
 use Rattle.show_captures.specs.ByOptions.{by_options}
 use Rattle.show_captures.specs.End.{StopsEarly}
 use Rattle.show_captures.specs.Reason.{reason_line}
@@ -62,7 +62,7 @@ read_reason name errno status failed = if status == 5 && not failed then reason_
 
 -- a run on the file with this name: its name, if it is text, and then the output for what it has, or that it cannot be opened; or
 -- the writer failed. Standard error is told why the file cannot be read or opened, and nothing else
-pub data RunsFile (source : List ℕ → Option (List ℕ) → Type 0) (output : Output) (raw : Bool) (name : List ℕ) (held_before held_after : Option (List ℕ)) (failed : Bool) (status : ℕ) (told_before told_after : UnitMeaning) : Type 0 where
+pub data RunsFile (source : List ℕ → Option (List ℕ) → Type 0) (output : Output) (raw : Bool) (name : List ℕ) (held_before held_after : Option (List ℕ)) (failed : Bool) (status : ℕ) (told_before told_after : Told) : Type 0 where
   Opened : (named left_before left_after : Option (List ℕ)) (errno : Option ℤ) → source name left_before → Appends held_before named (name_line output name) → RunsOn output (Some name) raw left_before left_after named held_after failed status
       → Tells told_before told_after (read_reason name errno status failed) → RunsFile source output raw name held_before held_after failed status told_before told_after
   Unopened : (named : Option (List ℕ)) (errno : Option ℤ) → name ≢ codes "-" → Appends held_before named (name_line output name) → IsUnopened output name status named held_after failed
@@ -75,15 +75,15 @@ goes_on status failed = not (status == 4) && not failed
 
 -- the files with these names were run on, each but the last so that the next is read: what is written for it, and told, follows
 -- what was for those before it. `status` is the greatest of their exit statuses, and `more` says whether another one would be read
-pub data RunsFiles (source : List ℕ → Option (List ℕ) → Type 0) (output : Output) (raw : Bool) (held_before : Option (List ℕ)) (told_before : UnitMeaning) : List (List ℕ) → Option (List ℕ) → Bool → ℕ → Bool → UnitMeaning → Type 0 where
-  NoFile : (names : List (List ℕ)) (held_after : Option (List ℕ)) (failed : Bool) (status : ℕ) (more : Bool) (told_after : UnitMeaning) → names ≡ [] → held_after ≡ held_before → status ≡ 0 → more ≡ true → told_after ≡ told_before
+pub data RunsFiles (source : List ℕ → Option (List ℕ) → Type 0) (output : Output) (raw : Bool) (held_before : Option (List ℕ)) (told_before : Told) : List (List ℕ) → Option (List ℕ) → Bool → ℕ → Bool → Told → Type 0 where
+  NoFile : (names : List (List ℕ)) (held_after : Option (List ℕ)) (failed : Bool) (status : ℕ) (more : Bool) (told_after : Told) → names ≡ [] → held_after ≡ held_before → status ≡ 0 → more ≡ true → told_after ≡ told_before
       → RunsFiles source output raw held_before told_before names held_after failed status more told_after
-  OneMore : (names : List (List ℕ)) (held_after : Option (List ℕ)) (failed : Bool) (status : ℕ) (more : Bool) (told_after : UnitMeaning) (front : List (List ℕ)) (name : List ℕ) (between : Option (List ℕ)) (greatest last : ℕ) (told_between : UnitMeaning)
+  OneMore : (names : List (List ℕ)) (held_after : Option (List ℕ)) (failed : Bool) (status : ℕ) (more : Bool) (told_after : Told) (front : List (List ℕ)) (name : List ℕ) (between : Option (List ℕ)) (greatest last : ℕ) (told_between : Told)
       → RunsFiles source output raw held_before told_before front between false greatest true told_between → names ≡ front ++ name ∷ [] → RunsFile source output raw name between held_after failed last told_between told_after
       → status ≡ max greatest last → more ≡ goes_on last failed → RunsFiles source output raw held_before told_before names held_after failed status more told_after
 
 -- the first files of a task were run on, and all of them, unless one of them ended the run
-pub record RunsTask (source : List ℕ → Option (List ℕ) → Type 0) (output : Output) (raw : Bool) (names : List (List ℕ)) (held_before held_after : Option (List ℕ)) (failed : Bool) (status : ℕ) (told_before told_after : UnitMeaning) : Type 0 where
+pub record RunsTask (source : List ℕ → Option (List ℕ) → Type 0) (output : Output) (raw : Bool) (names : List (List ℕ)) (held_before held_after : Option (List ℕ)) (failed : Bool) (status : ℕ) (told_before told_after : Told) : Type 0 where
   pub done : List (List ℕ)
   pub rest : List (List ℕ)
   pub more : Bool
@@ -92,7 +92,7 @@ pub record RunsTask (source : List ℕ → Option (List ℕ) → Type 0) (output
   pub ended : more ≡ true → rest ≡ []
 
 -- a task without files: standard input, of which standard error is told by the name `-`
-pub record RunsInput {I : Type 0} (of_input : I → Option (List ℕ)) (output : Output) (raw : Bool) (held_before held_after : Option (List ℕ)) (failed : Bool) (status : ℕ) (told_before told_after : UnitMeaning) : Type 0 where
+pub record RunsInput {I : Type 0} (of_input : I → Option (List ℕ)) (output : Output) (raw : Bool) (held_before held_after : Option (List ℕ)) (failed : Bool) (status : ℕ) (told_before told_after : Told) : Type 0 where
   pub reader : I
   pub left_after : Option (List ℕ)
   pub errno : Option ℤ

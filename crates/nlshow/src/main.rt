@@ -22,7 +22,7 @@ ghost use Rattle.std.specs.Io.KnownBytes.{Appends};
 ghost use Rattle.link_show.specs.Quoted.{quoted};
 ghost use Rattle.nlshow.specs.Runs.{IsSource, IsText, IsUnopened, RunsFile, RunsInput, RunsOn, RunsTask, goes_on, name_line, read_reason, told_name};
 ghost use Rattle.program.specs.Printing.{PrintsOrFails, PrintsOrEnds, no_memory_line};
-ghost use Rattle.program.specs.UnitMeaning.{Tells, told};
+ghost use Rattle.program.specs.Told.{Tells, told};
 ghost use Rattle.program.specs.UntilEnd.{errno_of, left_of};
 ghost use Rattle.program.specs.Watched.{given, has_failed, passed_on};
 ghost use Rattle.show_lines.specs.Arguments.{IsError, IsRequest, IsWrong, reply_status, reply_text};

@@ -5,7 +5,7 @@ ghost use Rattle.std.specs.Io.KnownBytes.{Appends};
 ghost use Rattle.std.specs.List.{list_all};
 ghost use Rattle.link_base.specs.Labels.{name_in};
 ghost use Rattle.link_base.specs.WellFormed.{is_printable};
-ghost use Rattle.program.specs.UnitMeaning.{Tells, meaning};
+ghost use Rattle.program.specs.Told.{Tells, told};
 ghost use Rattle.show_captures.specs.Reason.{number_text, reason_line, reason_text, reasons, shown_name};
 
 use link_base::rows::label::{Name, name_of};
@@ -52,7 +52,7 @@ const REASONS: &[Name] = names![
 /// Writes to standard error why the file `name` cannot be opened or read, by its error number; without one, only what failed,
 /// such as `cannot open`. Nothing is written after a write that failed.
 pub fn tell_reason<E: Write>(errors: &mut Watched<E>, name: &str, errno: Option<i32>, what: &str)
-    ensures { Tells (meaning E.contents errors.old) (meaning E.contents errors.new) (reason_line name.now errno what.now) }
+    ensures { Tells (told E.contents errors.old) (told E.contents errors.new) (reason_line name.now errno what.now) }
 {
     if errors.has_failed() {
         return;

@@ -7,7 +7,7 @@ use Rattle.std.proofs.lemmas.List.{take_at, take-append-drop}
 use Rattle.std.proofs.lemmas.Bool.{cond-false, ltb-false, le-ltb}
 use Rattle.netlink_packet_route.proofs.Rewritten.{none_unfit, begins}
 use Rattle.netlink_packet_route.specs.Answers.{ListFaultUnless, OnListMemory, OnRewriteMemory}
-use Rattle.netlink_packet_route.specs.Frame.{Frame, AreFrames, IsFrame, IsComplete, encoded, frame_fault}
+use Rattle.netlink_packet_route.specs.Frame.{Frame, AreFrames, IsFrame, IsComplete, bytes_of_frames, frame_fault}
 use Rattle.netlink_packet_route.specs.Number.{number}
 use Rattle.netlink_packet_route.specs.Rewrite.{RewriteAnswers, Converges}
 use Rattle.netlink_packet_route.specs.Table.{Table, AttrValue, Decodes, Fits, Gives, Rewriting, written_list}
@@ -97,7 +97,7 @@ values_of gives (x ∷ xs) each = let rest = values_of gives xs each.1 in (each.
 front_decodes : (table : Table) (s : List ℕ) (at : ℕ) (fault : DecodeFault) → FirstFault (Gives table) s at fault → Decodes table (take at s)
 front_decodes table s at fault f =
     let values = values_of (Gives table) f.front f.values in
-    let string : take at s ≡ encoded f.front = ap (take at) f.string ∙ take_at (encoded f.front) f.rest at (sym f.offset) in
+    let string : take at s ≡ bytes_of_frames f.front = ap (take at) f.string ∙ take_at (bytes_of_frames f.front) f.rest at (sym f.offset) in
     record {
       values = values.0;
       wire = record { frames = f.front; string = record { frames = are_frames f.front f.complete; string = string }; values = values.1 };

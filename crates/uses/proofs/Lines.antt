@@ -7,7 +7,7 @@ use Rattle.std.proofs.lemmas.List.{append-nil, length-map}
 use Rattle.std.proofs.lemmas.Grind.{flat_map-append}
 use Rattle.netlink_packet_route.specs.Report.{line}
 use Rattle.netlink_packet_route.specs.Table.{Table, AttrValue, Gives}
-use Rattle.netlink_packet_route.specs.Frame.{encoded}
+use Rattle.netlink_packet_route.specs.Frame.{bytes_of_frames}
 use Rattle.netlink_packet_route.specs.Wire.{FirstFault}
 use Rattle.netlink_packet_route.proofs.Rewritten.{no_more_values}
 use Rattle.netlink_packet_route.specs.declared.link.DecodeFault.{DecodeFault}
@@ -68,7 +68,7 @@ printed table s means debug vs shown fault a b c front same h w = (
 -- ---- a list with an error or a value is not empty
 
 has_bytes : (table : Table) (s : List ℕ) (at : ℕ) (fault : DecodeFault) → FirstFault (Gives table) s at fault → 0 < length s
-has_bytes table s at fault f = omega (arith, f.some, ap length f.string, length-append (encoded f.front) f.rest)
+has_bytes table s at fault f = omega (arith, f.some, ap length f.string, length-append (bytes_of_frames f.front) f.rest)
 
 pub fault_has_bytes : (table : Table) (s : List ℕ) (vs : List AttrValue) (fault : Option (ℕ × DecodeFault)) → IsFront table s vs fault → IsSome fault → 0 < length s
 fault_has_bytes table s vs None front some = absurd cc

@@ -1,7 +1,7 @@
 use Rattle.std.proofs.Common.{rules, ℕ, Bool, ◌≡◌, ◌<◌, ◌+◌, ◌++◌, ◌∷◌, [], true, false, true≢false, List, Option, None, map, take, drop, string_bytes, refl, sym, subst, ◌∙◌, arith}
 use Rattle.std.proofs.lemmas.Grind.{common_steps}
 use Rattle.std.specs.Io.Buffered.{writer_buffer, writer_inner}
-use Rattle.program.specs.UnitMeaning.{told}
+use Rattle.program.specs.Told.{told}
 use Rattle.program.specs.UntilEnd.{errno_of, left_of}
 use Rattle.program.specs.Watched.{given, has_failed, passed_on}
 use Rattle.nlshow.specs.Runs.{NoFile, OneMore, IsSource, RunsFile, RunsFiles, RunsOn, goes_on}

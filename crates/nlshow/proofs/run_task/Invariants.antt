@@ -1,6 +1,6 @@
 use Rattle.std.proofs.Common.{◌≡◌, ◌<◌, [], true, false, map, take, string_bytes}
 use Rattle.std.specs.Io.Buffered.{writer_buffer, writer_inner}
-use Rattle.program.specs.UnitMeaning.{told}
+use Rattle.program.specs.Told.{told}
 use Rattle.program.specs.Watched.{given, has_failed}
 use Rattle.nlshow.specs.Runs.{IsSource, RunsFiles}
 use Rattle.nlshow.proofs.run_task.Given as goal
