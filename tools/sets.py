@@ -332,7 +332,8 @@ def run(it):
         parts["attr"] += f"attr {row.number} len {len(payload)}\n"
         parts["plain"] += f"  {row.name} {plain}".replace(" \n", "\n").rstrip() + "\n"
         parts["debug"] += f"  {row.variant}" + f"({debug})" * bool(debug) + "\n"
-        unit = f',"unit":"{UNITS[row.quantity]}"' * bool(UNITS[row.quantity])
+        # (octets count nothing)
+        unit = f',"unit":"{UNITS[row.quantity]}"' * (value[0] != '"' and bool(UNITS[row.quantity]))
         name = row.name.removeprefix(it.prefix).lower()
         parts["json"] += "," * bool(parts["json"]) + f'{{"name":"{name}","value":{value}{unit}}}'
     digits = " ".join(re.findall("." * 8, parts["out"]))
