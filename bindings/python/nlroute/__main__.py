@@ -15,6 +15,7 @@ Status: 0 if all input is right, 1 if not, 2 for a wrong argument or a file in a
 """
 from __future__ import annotations
 
+import errno
 import os
 import re
 import sys
@@ -152,8 +153,15 @@ def read_line(source: Source) -> bytes | None:
     return line.removesuffix(b"\n") if line else None
 
 
-def show_stream(raw: bool, stream: BufferedReader) -> int:
-    """Prints what an input asks for, and returns the status."""
+def tell(name: str, error: OSError) -> None:
+    """Writes to standard error why an input with this name cannot be opened or read."""
+    octets = os.fsencode(name)
+    text = name if re.fullmatch(rb"[ -~]+", octets) else quoted(octets)
+    print(f"nlshow: {text}: {os.strerror(error.errno or errno.EIO)}", file=sys.stderr)
+
+
+def show_stream(raw: bool, stream: BufferedReader, name: str = "-") -> int:
+    """Prints what an input with this name asks for, and returns the status."""
 
     def read() -> bytes:
         # (another program may wait for the answer, before it writes more)
@@ -162,8 +170,9 @@ def show_stream(raw: bool, stream: BufferedReader) -> int:
 
     try:
         return show_source(raw, Source(read))
-    except OSError:
+    except OSError as error:
         put(b"read fault")
+        tell(name, error)
         return FAILED
 
 
@@ -197,14 +206,12 @@ def show_file(raw: bool, name: str) -> int:
         return show_stream(raw, standard_input())
     try:
         stream = open(name, "rb")
-    except IsADirectoryError:
-        put(b"read fault")
-        return FAILED
-    except OSError:
-        put(b"cannot open")
+    except OSError as error:
+        put(b"read fault" if isinstance(error, IsADirectoryError) else b"cannot open")
+        tell(name, error)
         return FAILED
     with stream:
-        return show_stream(raw, stream)
+        return show_stream(raw, stream, name)
 
 
 def run(raw: bool, names: list[str]) -> int:
