@@ -1,11 +1,12 @@
 #!/usr/bin/env python3
 """Tries the mutants of the crates: edits of the code that the prover has to refuse.
 
-usage: tools/mutants.py [--jobs N] [CRATE..]
+usage: tools/mutants.py [--jobs N] [--only NAME].. [CRATE..]
 
 The mutants of a crate are in the file crates/NAME/mutants.edits: for each a heading '## NAME', a line
 'file: src/FILE.rt', and then pairs of lines 'old: TEXT' and 'new: TEXT'. Each old text is in that file once; further pairs
-apply to what the earlier ones made. With no CRATE named, the mutants of all crates of crates.txt are tried.
+apply to what the earlier ones made. With no CRATE named, the mutants of all crates of crates.txt are tried, and with --only
+those of these names.
 
 A mutant changes bodies of functions, which have to be refused, or something else. Then it names by lines 'at: PATH' the
 functions that have to be refused. Lines 'goal: NAME' name goals, by one of which it has to be refused.
@@ -130,9 +131,9 @@ def batches_of(mutants):
 class Trial:
     """The mutants of one crate, and what came of them. Its checks run one after another, each on what those before found."""
 
-    def __init__(self, crate, room):
-        self.crate, self.kept = crate, f"{room}/kept/{crate.name}"
-        self.mutants, self.shown, self.passed, self.failed = [], Counter(), 0, 0
+    def __init__(self, crate, room, only=()):
+        self.crate, self.kept, self.only = crate, f"{room}/kept/{crate.name}", only
+        self.mutants, self.names, self.shown, self.passed, self.failed = [], [], Counter(), 0, 0
         self.work, self.checks, self.by_hand = 0.0, 0, {}
         os.makedirs(self.kept)
         with open(f"{crate.folder}/mutants.edits", encoding="utf-8") as file:
@@ -140,6 +141,9 @@ class Trial:
                 self.take_in("mutants.edits", *it)
 
     def take_in(self, list_name, line, name, edit, wrong, is_equivalent=False):
+        if self.only and name not in self.only:
+            return
+        self.names.append(name)
         try:
             if wrong:
                 raise EditError(wrong)
@@ -233,8 +237,8 @@ class Trial:
                 self.judge(mutant, None)
 
 
-def trials_of(root, names, kit, room):
-    """The trials of the crates of these names, or of all, that have mutants."""
+def trials_of(root, names, kit, room, only=()):
+    """The trials of the crates of these names, or of all, that have mutants: of all their mutants, or of those of `only`."""
     crates = crates_of(root, kit)
     unknown = [it for it in names if it not in crates]
     if unknown:
@@ -245,7 +249,7 @@ def trials_of(root, names, kit, room):
             it.source = f"{room}/below/{it.name}"
             cut_crate(it, it.source)
     chosen = [it for it in crates.values() if not names or it.name in names]
-    return [Trial(it, room) for it in chosen if os.path.isfile(f"{it.folder}/mutants.edits")]
+    return [Trial(it, room, only) for it in chosen if os.path.isfile(f"{it.folder}/mutants.edits")]
 
 
 def take_in_equivalents(trials, path):
@@ -258,11 +262,15 @@ def take_in_equivalents(trials, path):
                     it.take_in(os.path.basename(path), line, name, own, wrong, is_equivalent=True)
 
 
-def try_mutants(root, names, kit, jobs=0, equivalents=""):
+def try_mutants(root, names, kit, jobs=0, equivalents="", only=()):
     with tempfile.TemporaryDirectory(prefix="mutants-") as room:
-        trials = trials_of(root, names, kit, room)
+        trials = trials_of(root, names, kit, room, only)
         if equivalents:
             take_in_equivalents(trials, equivalents)
+        unknown = {*only} - {name for it in trials for name in it.names}
+        if unknown:
+            print(f"mutants: there is no mutant {' or '.join(sorted(unknown))} to try")
+            return 2
         # (those of most checks first)
         with ThreadPoolExecutor(lanes(jobs)) as pool:
             [*pool.map(Trial.run, sorted(trials, key=lambda it: -len(it.mutants)))]
@@ -277,10 +285,11 @@ def try_mutants(root, names, kit, jobs=0, equivalents=""):
 def main():
     reader = argparse.ArgumentParser(description=__doc__, formatter_class=argparse.RawDescriptionHelpFormatter)
     reader.add_argument("--jobs", type=int, default=0, help="how many checks run at once")
+    reader.add_argument("--only", metavar="NAME", action="append", default=[], help="the name of a mutant to try alone")
     reader.add_argument("crates", nargs="*")
     given = reader.parse_args()
     here = os.path.dirname(os.path.realpath(__file__))
-    return try_mutants(os.path.dirname(here), given.crates, kit_folder(), given.jobs, f"{here}/equivalent.edits")
+    return try_mutants(os.path.dirname(here), given.crates, kit_folder(), given.jobs, f"{here}/equivalent.edits", given.only)
 
 
 if __name__ == "__main__":

@@ -357,6 +357,19 @@ class Cutting(unittest.TestCase):
 
 
 class Trying(unittest.TestCase):
+    def test_only_the_mutants_that_are_named_are_tried(self):
+        with tempfile.TemporaryDirectory(prefix="mutants-test-") as root:
+            write(f"{root}/crates.txt", "steps:\n")
+            write(f"{root}/crates/steps/src/lib.rt", STEPS)
+            listed = "".join(f"## {name}\nfile: src/lib.rt\n{edit}\n\n" for name, (edit, _) in EDITS.items())
+            write(f"{root}/crates/steps/mutants.edits", listed)
+            with contextlib.redirect_stdout(io.StringIO()) as said:
+                for names in (["steps_by_one", "does_not_apply"], ["steps_by_two"]):
+                    with unittest.mock.patch.object(mutants.Trial, "run", lambda it: print([mutant.name for mutant in it.mutants])):
+                        status = mutants.try_mutants(root, ["steps"], root, only=names)
+        lines = said.getvalue().splitlines()
+        self.assertEqual((2, ["['steps_by_one']"], "mutants: there is no mutant steps_by_two to try"), (status, lines[1:2], lines[-1]))
+
     def test_mutants_of_a_small_crate(self):
         with tempfile.TemporaryDirectory(prefix="mutants-test-") as root:
             write(f"{root}/crates.txt", "steps:  # no library but std\n")
