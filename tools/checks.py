@@ -5,7 +5,7 @@ import subprocess
 import tempfile
 from typing import NamedTuple
 
-from cut import cut_crate
+from cut import NO_OFFERS, cut_crate
 from edits import EditError
 
 OWN_NOTE = re.compile(r"note: (?:\./)?(src/[^:]+):(\d+):\d+: (it is not proved that .*)")
@@ -90,7 +90,7 @@ class Answer:
             if note and note[1] == file and turned.has_line(int(note[2])):
                 names = [] if ONLY_A_CALLEE.search(note[3]) else names_in(note[3], r"\(`([^`]+)`\)")
                 found += (Told(line[len("note: ") :], it, shown_by(note[3])) for it in names or [""])
-            elif error and (error[1] == folder or is_in_cycle(error, folder)):
+            elif error and error[3] != NO_OFFERS and (error[1] == folder or is_in_cycle(error, folder)):
                 found.append(told_by_hand(line, error, message))
             elif goals and goals[1] == seat:
                 left += (Told(line, it, OPEN) for it in names_in(goals[2]))

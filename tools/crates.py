@@ -20,7 +20,7 @@ class Crate:
         self.deps = [crates[it] for it in uses if it in crates]
         self.of_kit = ["std", *(it for it in uses if it not in crates)]
         self.rlib = f"{self.folder}/out/rlib/{name}.rlib"
-        self.is_program = os.path.isfile(f"{self.folder}/src/main.rt")
+        self.root = f"src/{'main' if os.path.isfile(f'{self.folder}/src/main.rt') else 'lib'}.rt"
         # a folder with sources to check crates above over, in the place of the proved library
         self.source = ""
 
@@ -48,14 +48,14 @@ class Crate:
         """The words of a check of this crate over the libraries below it: each proved, or the sources that it has in place
         of that."""
         kit = dict.fromkeys([*self.of_kit, *(it for lib in self.below() if lib.source for it in ["core", *lib.of_kit])])
-        words = ["--crate-name", self.name, f"src/{'main' if self.is_program else 'lib'}.rt"]
+        words = ["--crate-name", self.name, self.root]
         for name in kit:
             words += ["--extern", f"{name}={self.kit}/rlibs/{name}.rlib"]
         words += ["-L", f"dependency={self.kit}/rlibs"]
         for lib in self.below():
             words += lib.words_above(lib in self.deps or any(it.source and lib in it.deps for it in self.below()))
         words += ["--antt-project", f"{self.kit}/rattle/logic/antt-project.json"]
-        return [*words, "--logic-built", f"{self.kit}/logic_built", "--links", f"{self.name}=", *self.kind]
+        return [*words, "--logic-built", f"{self.kit}/logic_built", *self.kind]
 
     def words_above(self, is_named):
         """The words by which a crate above is checked over this one, whether a crate of sources names it or not."""

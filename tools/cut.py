@@ -1,9 +1,10 @@
-"""Copies of crates with cut bodies: a function that is not to be judged does nothing but `unreachable!()`.
+"""Copies of crates with cut bodies: a function that is not to be judged only calls one of C that is assumed to ensure `⊥`.
 
 What is proved of a function rests on its own body and on contracts, types, definitions and constants, which stay. So a
-check over such copies judges a function though nothing else is proved. Theorems, functions with an empty body, are cut too.
-A `const fn` stays whole, since a type or a definition may compute it, and so do tests. Lemmas stay, and a proof by hand
-stays with its function.
+check over such copies judges a function though nothing else is proved. A cut body meets any contract, so it is proved at
+once, and not again by a later check with the same `--incremental`. The function of C is in no contract, and only cut bodies
+call it. Theorems, functions with an empty body, are cut too. A `const fn` stays whole, since a type or a definition may
+compute it, and so do tests. Lemmas stay, and a proof by hand stays with its function.
 """
 import os
 import re
@@ -14,6 +15,15 @@ from edits import CYCLE, functions_in, module_of, text_of
 BY_HAND = ("Answers.antt", "Invariants.antt", "Proof.antt")
 MACRO = re.compile(r"( *)macro_rules! \w+ \{$")
 STAYS = re.compile(r"\bconst (?:unsafe )?fn\b|#\[(?:cfg\(test\)|test)\]")
+# The name of a declaration that is refused, since it is of no type.
+NO_OFFERS = "no-offers"
+# The module of the function that cut bodies call.
+CUT_AWAY = """\
+unsafe extern "C" {
+    pub(crate) safe fn never()
+        ensures { ⊥ };
+}
+"""
 
 
 def cut_text(file, text, whole=()):
@@ -25,8 +35,7 @@ def cut_text(file, text, whole=()):
         if path in whole or it.opening in macros or STAYS.search("\n".join(head)):
             continue
         indent = lines[it.end][: -len(lines[it.end].lstrip())]
-        # (no search has to find out that it is not proved)
-        body = [f"{indent}    #[tactic(none)]", f"{indent}    unreachable!()", f"{indent}}}"]
+        body = [f"{indent}    crate::cut_away::never();", f"{indent}    unreachable!()", f"{indent}}}"]
         # what is cut calls nothing, so it is in no cycle
         above = [line for line in head[:-1] if not CYCLE.match(line)]
         lines[it.head : it.end + 1] = [*above, head[-1].removesuffix("}"), *body]
@@ -76,9 +85,31 @@ def cut_crate(crate, folder, texts=None, whole=()):
         if part == "src":
             text = cut_text(path, text, whole)
             found |= {name: (path, it) for name, it in functions_in(path, text).items()}
-        with open(f"{folder}/{path}", "w", encoding="utf-8") as file:
-            file.write(text)
+        if path == crate.root:
+            text += "mod cut_away;\n"
+            write(f"{folder}/src/cut_away.rt", CUT_AWAY)
+        write(f"{folder}/{path}", text)
     return found
+
+
+def without_offers(crate, seats, texts):
+    """The texts of the files that have answers by hand for these functions, as they are or as these texts have them, each
+    with a declaration that is refused: so a check does not offer files for what it refuses, which takes as long again."""
+    found, whole = {}, with_cycles(crate.functions, seats)
+    # (functions of a cycle have one folder)
+    own = {it.replace("::", "/") for it in whole if crate.functions[it][1].cycle}
+    for folder in sorted(folders_of(crate.functions, whole) - own):
+        path, by_hand = f"proofs/{folder}/Answers.antt", f"{crate.folder}/proofs/{folder}/Proof.antt"
+        if not os.path.isfile(by_hand):
+            is_there = path in texts or os.path.isfile(f"{crate.folder}/{path}")
+            found[path] = (texts.get(path) or text_of(crate.folder, path)) + "\n" if is_there else ""
+            found[path] += f"{NO_OFFERS} : {NO_OFFERS}\n{NO_OFFERS} = {NO_OFFERS}\n"
+    return found
+
+
+def write(path, text):
+    with open(path, "w", encoding="utf-8") as file:
+        file.write(text)
 
 
 def without_answers(crate, goals):

@@ -17,7 +17,8 @@ a check over it is several times as fast. Mutants of different functions are tri
 of such a function: told by a note at a line of the function, by an error of the goal's proof in that function's folder of
 proofs/, or as a goal that no search proved. A mutant that changes a definition of specs/, or was not judged with the others,
 is tried alone. For a definition, a goal of a theorem counts too, which is a function with a contract and an empty body, and a
-lemma that a line 'goal: NAME' names, if these functions are not proved without it.
+lemma that a line 'goal: NAME' names, if these functions are not proved without it. The first check of a mutant is a quick
+one, which can refuse its function but not tell it for proved: cut.py says how. What no quick check refuses, another judges.
 
 What was told of a mutant is one of these words. These refuse it:
 
@@ -48,7 +49,7 @@ sys.dont_write_bytecode = True
 sys.path.insert(0, os.path.dirname(os.path.realpath(__file__)))
 from checks import BY_HAND, FALSE, LIMIT, LOST, OPEN, check  # noqa: E402
 from crates import crates_of, kit_folder, lanes  # noqa: E402
-from cut import cut_crate, without_answers  # noqa: E402
+from cut import cut_crate, without_answers, without_offers  # noqa: E402
 from edits import EditError, edited_texts, entries_of, functions_in, values_of  # noqa: E402
 
 # How many mutants one check has at most: so that no check goes on long after all others.
@@ -177,7 +178,12 @@ class Trial:
             self.shown[shows] += 1
             self.passes(mutant.name, f"refused ({shows}): `{told.goal}`: {told.line[:160]}")
 
-    def check(self, batch, proofs=None):
+    def check(self, batch, proofs=None, is_quick=True):
+        """Checks the functions of these mutants. A quick check never tells a function of a mutant for proved."""
+        proofs = proofs or {}
+        if is_quick:
+            seats = {path for it in batch.mutants if not it.is_equivalent for path in it.seats}
+            proofs = {**proofs, **without_offers(self.crate, seats, {**batch.texts, **proofs})}
         answer = check(self.crate, batch.texts, batch.seats(), batch.whole(), self.kept, proofs)
         self.work, self.checks = self.work + answer.seconds, self.checks + 1
         return answer
@@ -190,9 +196,9 @@ class Trial:
         shown = ", ".join(f"{number} {it}" for it, number in sorted(self.shown.items()))
         print(f"== {self.crate.name}: {shown}; {self.checks} checks, {self.work / 60:.1f} processor minutes", flush=True)
 
-    def try_together(self, batch):
-        """Tries mutants in one check that tells them apart. Those that it does not settle are tried alone."""
-        answer, is_alone = self.check(batch), len(batch.mutants) == 1
+    def try_together(self, batch, is_quick=True):
+        """Tries mutants in one quick check that tells them apart. Those that it does not settle are tried alone."""
+        answer, is_alone = self.check(batch, is_quick=is_quick), len(batch.mutants) == 1
         if answer.why and not is_alone:
             # one of them does not compile, or is not read
             for half in (batch.mutants[::2], batch.mutants[1::2]):
@@ -203,11 +209,11 @@ class Trial:
             try:
                 told = answer.told_of_mutant(mutant, is_alone)
             except EditError as error:
-                if is_alone:
+                if not is_quick:
                     self.fails(mutant.name, f"BAD EDIT: {error}")
                 else:
                     self.say(mutant.name, f"is tried alone: {str(error)[:240]}")
-                    self.try_together(Batch(mutant))
+                    self.try_together(Batch(mutant), is_quick=False)
                 continue
             answered = [it.goal for it in told if it.shows in (BY_HAND, LOST)]
             is_settled = not told or told[0].shows in (FALSE, OPEN)
@@ -216,21 +222,26 @@ class Trial:
             else:
                 self.judge(mutant, told[0] if told else None)
 
-    def try_without_answers(self, batch):
+    def try_without_answers(self, batch, is_quick=True):
         """Tries mutants again whose proofs by hand fail, without these proofs. A goal whose proof does not fit has to fail so
-        too. If its proof lost a name, only values at which the goal is false refuse the mutant."""
+        too. If its proof lost a name, only values at which the goal is false refuse the mutant. Those that a quick check does
+        not settle are tried so alone."""
         goals = {it: [told.goal for told in self.by_hand[mutant.name][1]] for mutant in batch.mutants for it in mutant.seats}
         proofs = without_answers(self.crate, goals)
-        answer = self.check(batch, proofs)
+        answer = self.check(batch, proofs, is_quick)
         for mutant in batch.mutants:
             told = self.by_hand[mutant.name][1]
             shown = {it.goal: it.shows for it in answer.told_of(mutant.seats) if it.goal}
             false = [it for it in told if shown.get(it.goal) == FALSE]
             fails = any(it.goal in shown or it.shows == LOST for it in told)
-            if answer.why:
+            if answer.why and is_quick:
+                self.try_without_answers(Batch(mutant), is_quick=False)
+            elif answer.why:
                 self.fails(mutant.name, f"BAD EDIT: without its proof by hand, {answer.why}")
             elif false:
                 self.judge(mutant, false[0], FALSE)
+            elif not fails and is_quick:
+                self.try_without_answers(Batch(mutant), is_quick=False)
             elif fails or not {*mutant.seats} <= answer.accepted:
                 self.judge(mutant, told[0])
             else:

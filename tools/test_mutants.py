@@ -316,7 +316,7 @@ class Cutting(unittest.TestCase):
     def test_bodies_are_cut_but_those_that_are_asked_for(self):
         cut_text = cut.cut_text("src/pairs.rt", SOURCE, {"pairs::Pair::is_single"})
         self.assertEqual(5, cut_text.count("unreachable!()"))
-        for kept in ("        self.len() == 1\n", "    fn bytes(&self) -> usize;\n", "    ensures one { 1 ≡ 1 }\n{\n    #[tactic(none)]\n    unreachable!()\n}\n"):
+        for kept in ("        self.len() == 1\n", "    fn bytes(&self) -> usize;\n", "    ensures one { 1 ≡ 1 }\n{\n    crate::cut_away::never();\n    unreachable!()\n}\n"):
             self.assertIn(kept, cut_text)
         for gone in ("self.bytes() / 2", "Pair(1, 2)", "{}"):
             self.assertNotIn(gone, cut_text)
@@ -350,10 +350,16 @@ class Cutting(unittest.TestCase):
             cut.cut_crate(crate, f"{root}/copy", {"specs/Answers.antt": "new\n"}, {"walk"})
             self.assertFalse(os.path.exists(f"{root}/copy/proofs/half"))
             for path, text in {listed[0]: f"pub one : goal.one\n\npub {listed[0]} : goal.two\n", listed[3]: "new\n"}.items():
-                with open(f"{root}/copy/{path}", encoding="utf-8") as file:
-                    self.assertEqual(text, file.read())
+                self.assertEqual(text, read(f"{root}/copy/{path}"))
             left = {"proofs/walk/Answers.antt": f"pub {listed[1]} : goal.two\n"}
             self.assertEqual(left, cut.without_answers(crate, {"walk": ["one", "other"]}))
+            self.assertEqual(3, read(f"{root}/copy/src/lib.rt").count("crate::cut_away::never();"))
+            self.assertTrue(read(f"{root}/copy/src/lib.rt").endswith("}\nmod cut_away;\n"))
+            self.assertIn("ensures { ⊥ }", read(f"{root}/copy/src/cut_away.rt"))
+            refused = "no-offers : no-offers\nno-offers = no-offers\n"
+            wanted = {listed[1]: f"{left[listed[1]]}\n{refused}", "proofs/next/Answers.antt": refused}
+            self.assertEqual(wanted, cut.without_offers(crate, ["walk", "next"], left))
+            self.assertEqual([f"pub one : goal.one\n\npub {listed[2]} : goal.two\n\n{refused}"], [*cut.without_offers(crate, ["half"], {}).values()])
 
 
 class Trying(unittest.TestCase):
@@ -385,6 +391,11 @@ class Trying(unittest.TestCase):
         for name, (_, wanted) in {**EDITS, **EQUIVALENT}.items():
             self.assertTrue(told.get(f"steps/{name}", "").startswith(wanted), f"{name}: {told[f'steps/{name}']}")
         self.assertEqual((1, "6 passed, 10 failed"), (status, lines[-1]))
+
+
+def read(path):
+    with open(path, encoding="utf-8") as file:
+        return file.read()
 
 
 def write(path, text):
