@@ -171,8 +171,8 @@ def show_stream(raw: bool, stream: BufferedReader, name: str = "-") -> int:
     try:
         return show_source(raw, Source(read))
     except OSError as error:
-        put(b"read fault")
         tell(name, error)
+        put(b"read fault")
         return FAILED
 
 
@@ -207,8 +207,8 @@ def show_file(raw: bool, name: str) -> int:
     try:
         stream = open(name, "rb")
     except OSError as error:
-        put(b"read fault" if isinstance(error, IsADirectoryError) else b"cannot open")
         tell(name, error)
+        put(b"read fault" if isinstance(error, IsADirectoryError) else b"cannot open")
         return FAILED
     with stream:
         return show_stream(raw, stream, name)

@@ -174,7 +174,7 @@ class Captures(unittest.TestCase):
             names = [name for name, it in heads.items() if FILES.search(it) and not OTHER_OPTIONS.search(it)]
             self.assertGreater(len(names), 50)
             words = [sys.executable, os.path.join(TOP, "tools/runs.py"), "--binary", f"nlshow={program}", *names]
-            done = subprocess.run(words, capture_output=True, text=True, env={**os.environ, "PYTHONPATH": path})
+            done = subprocess.run(words, capture_output=True, text=True, env={**os.environ, "PYTHONPATH": path, "PYTHONUNBUFFERED": ""})
             self.assertEqual(done.returncode, 0, done.stdout + done.stderr)
 
     def test_answers_at_once(self):
@@ -199,7 +199,8 @@ class Arguments(unittest.TestCase):
             with open(os.path.join(folder, 'a"b'), "w") as file:
                 file.write(LIST)
             printed = f'file "a\\"b"\n{PRINTED}file "-"\n{PRINTED}file "none"\ncannot open\nfile "."\nread fault\n'
-            self.assertEqual(run('a"b', "-", "none", ".", given=LIST, cwd=folder), (5, printed))
+            told = "nlshow: none: No such file or directory\nnlshow: .: Is a directory\n"
+            self.assertEqual(run('a"b', "-", "none", ".", given=LIST, cwd=folder), (5, printed, told))
             self.assertEqual(run("--", 'a"b', cwd=folder), (0, f'file "a\\"b"\n{PRINTED}'))
 
     def test_options(self):
